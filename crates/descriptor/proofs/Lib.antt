@@ -1,0 +1,4 @@
+pub mod BoundsLemmas
+pub mod ContextLemmas
+pub mod InfoLemmas
+pub mod PassLemmas

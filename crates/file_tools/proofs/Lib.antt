@@ -1,0 +1,10 @@
+pub mod PieceLemmas
+pub mod JobLemmas
+pub mod WritingLemmas
+pub mod SayingLemmas
+pub mod ListLemmas
+pub mod WordCounts
+pub mod SavingLemmas
+pub mod AnswerLaws
+pub mod SpreadLaws
+pub mod AskedLaws

@@ -1,0 +1,3 @@
+pub mod Counts
+pub mod HomeLemmas
+pub mod MultiplesLemmas

@@ -1,0 +1,3 @@
+pub mod Home
+pub mod Multiples
+pub mod Spread

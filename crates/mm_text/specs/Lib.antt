@@ -1,0 +1,9 @@
+pub use Rattle.store_io.specs.Outside
+pub use Rattle.text_io.specs.Reading
+pub use Rattle.text_io.specs.Writing
+pub use Rattle.text_io.specs.Saving
+pub use Rattle.line_text.specs.Lines
+pub mod Matrix
+pub mod PlainText
+pub mod PlainReading
+pub mod Loading

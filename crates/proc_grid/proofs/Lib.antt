@@ -1,0 +1,4 @@
+pub mod FirstLemmas
+pub mod GridLemmas
+pub mod MapLemmas
+pub mod PlaceLemmas

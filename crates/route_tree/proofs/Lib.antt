@@ -1,0 +1,3 @@
+pub mod ParentLaws
+pub mod RouteLaws
+pub mod GatherLaws

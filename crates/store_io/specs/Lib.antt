@@ -1,0 +1,4 @@
+pub mod Outside
+pub mod Buffer
+pub mod MemState
+pub mod MemView

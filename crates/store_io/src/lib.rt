@@ -1,0 +1,19 @@
+//! What the tools read from and write to: a store of files by name, and a sink of bytes.
+#![tactic(auto)]
+
+mod buffer;
+mod dir_store;
+mod helpers;
+mod mem_sink;
+mod mem_store;
+mod sink;
+mod std_sink;
+mod store;
+
+pub use dir_store::DirStore;
+pub use helpers::{sink_all, store_all};
+pub use mem_sink::MemSink;
+pub use mem_store::MemStore;
+pub use sink::{Sink, SinkErr};
+pub use std_sink::StdSink;
+pub use store::{Store, StoreErr};

@@ -1,0 +1,176 @@
+//! The commands on files in memory.
+use file_tools::{Status, plain_tool};
+use std::alloc::{AllocError, Global};
+use std::test::Fail;
+use store_io::{MemSink, MemStore};
+
+const A: &[u8; 60] = b"%%MatrixMarket matrix array integer general\n3 2\n1\n2\n3\n4\n5\n6\n";
+
+const FIRST: &[u8; 84] =
+    b"%%MatrixMarket matrix array integer general\n%DESC 2 1 0 0 3 2 2 1 0 0 2\n2 2\n1\n2\n4\n5\n";
+
+const SECOND: &[u8; 80] =
+    b"%%MatrixMarket matrix array integer general\n%DESC 2 1 1 0 3 2 2 1 0 0 1\n1 2\n3\n6\n";
+
+fn words(alloc: Global, line: &str) -> Result<Vec<String>, AllocError> {
+    let mut words = Vec::new(alloc);
+    for word in line.split_whitespace() {
+        words.push(String::from_str(alloc, word)?)?;
+    }
+    Ok(words)
+}
+
+// Whether the store holds a file of these bytes.
+fn holds(store: &MemStore, name: &str, bytes: &[u8]) -> bool {
+    match store.file(name) {
+        Some(held) => held == bytes,
+        None => false,
+    }
+}
+
+// A run of the tool on the words of a line.
+fn run(
+    alloc: Global,
+    store: &mut MemStore,
+    err: &mut MemSink,
+    line: &str,
+) -> Result<Status, AllocError> {
+    let words = words(alloc, line)?;
+    let mut out = MemSink::new(alloc, 16)?;
+    Ok(plain_tool(alloc, &words, store, &mut out, err))
+}
+
+#[test]
+fn a_matrix_over_two_rows_of_processes(rt: HostRuntime) -> Result<(), Fail> {
+    let alloc = rt.alloc();
+    let mut store = MemStore::new(alloc, 4096, 8)?;
+    let mut err = MemSink::new(alloc, 256)?;
+    assert!(rt; store.put("a.mtx", A));
+    let status = run(alloc, &mut store, &mut err, "split a.mtx y 2 1 2 1")?;
+    assert_eq!(rt; status, Status::Done);
+    assert_eq!(rt; status.code(), 0);
+    assert!(rt; holds(&store, "y.0.0", FIRST));
+    assert!(rt; holds(&store, "y.1.0", SECOND));
+    assert!(rt; err.bytes().is_empty());
+    Ok(())
+}
+
+#[test]
+fn a_matrix_on_one_process(rt: HostRuntime) -> Result<(), Fail> {
+    let alloc = rt.alloc();
+    let mut store = MemStore::new(alloc, 4096, 8)?;
+    let mut err = MemSink::new(alloc, 256)?;
+    assert!(rt; store.put("a.mtx", A));
+    assert_eq!(rt;
+        run(alloc, &mut store, &mut err, "split a.mtx x 1 1 2 2")?,
+        Status::Done
+    );
+    let piece =
+        b"%%MatrixMarket matrix array integer general\n%DESC 1 1 0 0 3 2 2 2 0 0 3\n3 2\n1\n2\n3\n4\n5\n6\n";
+    assert_eq!(rt; store.file("x.0.0"), Some(piece.as_slice()));
+    Ok(())
+}
+
+#[test]
+fn a_matrix_without_rows(rt: HostRuntime) -> Result<(), Fail> {
+    let alloc = rt.alloc();
+    let mut store = MemStore::new(alloc, 4096, 8)?;
+    let mut err = MemSink::new(alloc, 256)?;
+    assert!(rt; store.put("e", b"%%MatrixMarket matrix array integer general\n0 5\n"));
+    assert_eq!(rt;
+        run(alloc, &mut store, &mut err, "split e z 2 2 2 2")?,
+        Status::Done
+    );
+    let piece =
+        b"%%MatrixMarket matrix array integer general\n%DESC 2 2 1 0 0 5 2 2 0 0 1\n1 3\n0\n0\n0\n";
+    let narrow =
+        b"%%MatrixMarket matrix array integer general\n%DESC 2 2 0 1 0 5 2 2 0 0 1\n1 2\n0\n0\n";
+    assert_eq!(rt; store.file("z.1.0"), Some(piece.as_slice()));
+    assert_eq!(rt; store.file("z.0.1"), Some(narrow.as_slice()));
+    Ok(())
+}
+
+#[test]
+fn refusals(rt: HostRuntime) -> Result<(), Fail> {
+    let alloc = rt.alloc();
+    let usage = "usage: gridtool split IN OUT P Q MB NB\n";
+    let cases = [
+        (
+            "split b.mtx x 1 1 2 2",
+            1,
+            "gridtool: b.mtx: line 1: not a plain file\n",
+        ),
+        (
+            "split e.mtx x 64 1 1 1",
+            1,
+            "gridtool: too many words: 1090519040\n",
+        ),
+        ("split nope x 1 1 1 1", 3, "gridtool: nope: missing\n"),
+        ("split a.mtx x 8 9 1 1", 2, usage),
+        ("split a.mtx x 0 1 2 2", 2, usage),
+        ("split a.mtx x 1 65 2 2", 2, usage),
+        ("split a.mtx x 1 1 0 2", 2, usage),
+        ("split a.mtx x 1 1 2 16777217", 2, usage),
+        ("split a.mtx x 1 1 2 +2", 2, usage),
+        ("split a.mtx x 1 1 2 000000000000000000002", 2, usage),
+        ("split a.mtx -x 1 1 2 2", 2, usage),
+        ("split -- a.mtx x 1 1 2 2", 2, usage),
+        ("split a.mtx x 1 1 2", 2, usage),
+        ("Split a.mtx x 1 1 2 2", 2, usage),
+        ("", 2, usage),
+    ];
+    for (line, code, text) in cases {
+        let mut store = MemStore::new(alloc, 4096, 8)?;
+        let mut err = MemSink::new(alloc, 256)?;
+        assert!(rt; store.put("a.mtx", A));
+        assert!(rt;
+            store.put(
+                "b.mtx",
+                b"%%MatrixMarket matrix array integer general\n3 2\n+1\n2\n3\n4\n5\n6\n"
+            )
+        );
+        assert!(rt;
+            store.put(
+                "e.mtx",
+                b"%%MatrixMarket matrix array integer general\n0 16777216\n"
+            )
+        );
+        let status = run(alloc, &mut store, &mut err, line)?;
+        assert_eq!(rt; status.code(), code, "{line}");
+        assert_eq!(rt; err.bytes(), text.as_bytes());
+        assert_eq!(rt; store.file("x.0.0"), None);
+    }
+    Ok(())
+}
+
+#[test]
+fn numbers_of_twenty_digits(rt: HostRuntime) -> Result<(), Fail> {
+    let alloc = rt.alloc();
+    let mut store = MemStore::new(alloc, 4096, 8)?;
+    let mut err = MemSink::new(alloc, 256)?;
+    assert!(rt; store.put("-", A));
+    assert_eq!(rt;
+        run(
+            alloc,
+            &mut store,
+            &mut err,
+            "split - - 1 1 00000000000000000002 2"
+        )?,
+        Status::Done
+    );
+    assert!(rt; store.file("-.0.0").is_some());
+    Ok(())
+}
+
+#[test]
+fn a_store_without_room(rt: HostRuntime) -> Result<(), Fail> {
+    let alloc = rt.alloc();
+    let mut store = MemStore::new(alloc, 150, 8)?;
+    let mut err = MemSink::new(alloc, 256)?;
+    assert!(rt; store.put("a.mtx", A));
+    let status = run(alloc, &mut store, &mut err, "split a.mtx y 2 1 2 1")?;
+    assert_eq!(rt; status, Status::Store);
+    assert_eq!(rt; status.code(), 3);
+    assert_eq!(rt; err.bytes(), b"gridtool: y.0.0: store fault\n".as_slice());
+    Ok(())
+}
