@@ -1,6 +1,8 @@
-//! Tests of the crates at the bottom: indices, grids, descriptors, folds and routes.
+//! Tests of the crates at the bottom: indices, grids, descriptors, arrays, folds and routes.
 #![tactic(auto)]
 
+#[cfg(test)]
+mod arrays;
 #[cfg(test)]
 mod descriptors;
 #[cfg(test)]

@@ -46,7 +46,8 @@ pub fn descinit(
 ) -> Result<Desc, Info>
     ensures passes { let entries = descinit_entries contexts.now m n mb nb irsrc icsrc ictxt lld rank in
         OnOk result (info_of entries ≡ None) }
-    ensures refuses { let entries = descinit_entries contexts.now m n mb nb irsrc icsrc ictxt lld rank in
+    ensures refuses { let entries = descinit_entries contexts.now m n mb nb irsrc icsrc ictxt lld rank
+        in
         IfErr result (λ info. info_of entries ≡ Some info) }
     ensures desc { IfOk result (λ desc. desc ≡ record {
       dtype = pos 1;

@@ -32,9 +32,11 @@ pub fn chk1mat(
     requires columns { npos ≤ 13 }
     requires after { 3 ≤ descpos }
     requires place { descpos ≤ 13 }
-    ensures passes { let entries = chk1mat_entries contexts.now m mpos n npos ia ja spread.now descpos in
+    ensures passes { let entries = chk1mat_entries contexts.now m mpos n npos ia ja spread.now descpos
+        in
         OnOk result (info_of entries ≡ None) }
-    ensures refuses { let entries = chk1mat_entries contexts.now m mpos n npos ia ja spread.now descpos in
+    ensures refuses { let entries = chk1mat_entries contexts.now m mpos n npos ia ja spread.now descpos
+        in
         IfErr result (λ info. info_of entries ≡ Some info) }
 {
     let extents = check_extents(m, mpos, n, npos)?;
@@ -102,9 +104,11 @@ fn check_starts(
     requires place { descpos ≤ 15 }
     requires rows { spread.now.desc.m ≡ pos whole.rows }
     requires columns { spread.now.desc.n ≡ pos whole.columns }
-    ensures passes { let entries = start_entries (pos extents.rows) (pos extents.columns) i j spread.now descpos in
+    ensures passes { let entries = start_entries (pos extents.rows) (pos extents.columns) i j spread.now
+        descpos in
         OnOk result (info_of entries ≡ None) }
-    ensures refuses { let entries = start_entries (pos extents.rows) (pos extents.columns) i j spread.now descpos in
+    ensures refuses { let entries = start_entries (pos extents.rows) (pos extents.columns) i j
+        spread.now descpos in
         IfErr result (λ info. info_of entries ≡ Some info) }
 {
     starts_within(i, extents.rows, whole.rows, descpos - 2)?;

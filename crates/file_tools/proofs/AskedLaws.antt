@@ -13,6 +13,7 @@ use Rattle.std.proofs.lemmas.List.{get_or-map}
 use Rattle.line_text.specs.Numbers.{digits_number}
 use Rattle.file_tools.specs.Asked.{Split, is_text, is_option, is_name, number_within, with_numbers, with_grid, split_of, asked}
 
+-- digits, as std's `parse` reads them
 own : IsNumeralModel (λ ds. all_ascii_digits ds ≡ true) (digits_value 10)
 own = numerals_by_value _ (search rules)
 
@@ -25,6 +26,7 @@ pub number_long : (low high : ℕ) (ds : List ℕ) → 20 < length ds → number
 unfolding number_within
 number_long low high ds long = rw (lt-leb (length ds) 20 long) refl
 
+-- what `digits_number` gives
 digits_none : (ds : List ℕ) → all_ascii_digits ds ≡ false → digits_number ds ≡ None
 unfolding digits_number
 digits_none [] unlike = refl
@@ -40,6 +42,7 @@ unfolding digits_number
 digits_empty [] none = refl
 digits_empty (d ∷ ds) none = absurd (omega arith)
 
+-- at most 20 bytes
 number_from_none : (low high : ℕ) (ds : List ℕ) → length ds ≤ 20 → digits_number ds ≡ None → number_within low high ds ≡ None
 unfolding number_within
 number_from_none low high ds short e = rw (le-leb (length ds) 20 short, e) refl
@@ -170,6 +173,7 @@ asked_seven (a ∷ b ∷ c ∷ d ∷ f ∷ g ∷ []) e = absurd (omega arith)
 asked_seven (a ∷ b ∷ c ∷ d ∷ f ∷ g ∷ h ∷ []) e = refl
 asked_seven (a ∷ b ∷ c ∷ d ∷ f ∷ g ∷ h ∷ k ∷ ws) e = absurd (omega arith)
 
+-- the words as the code holds them, each a text below `f`
 pub word_at : {S : Type 0} (f : S → List ℕ) (ws : List S) (i : ℕ) (w : S) (text : List ℕ) → i < length ws → w ≡ get_or ws i w → text ≡ f w → get_or (map f ws) i [] ≡ text
 word_at f ws i w text e is shows = get_or-map f ws i w [] e ∙ ap f (sym is) ∙ sym shows
 

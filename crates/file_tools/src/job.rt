@@ -92,9 +92,12 @@ pub(crate) fn prepare(
 ) -> Result<Pieces, AllocError>
     requires rows_fit { rows ≤ 2 ^ 24 }
     requires columns_fit { columns ≤ 2 ^ 24 }
-    ensures names { IfOk result (λ p. texts_of p.names.items ≡ names_by split.now.prefix.now split.now.npcol (split.now.nprow * split.now.npcol)) }
-    ensures rows { IfOk result (λ p. lists_of p.rows.items ≡ owned_by (spread split.now.mb 0 split.now.nprow) rows split.now.nprow) }
-    ensures columns { IfOk result (λ p. lists_of p.columns.items ≡ owned_by (spread split.now.nb 0 split.now.npcol) columns split.now.npcol) }
+    ensures names { IfOk result (λ p. texts_of p.names.items ≡ names_by split.now.prefix.now
+        split.now.npcol (split.now.nprow * split.now.npcol)) }
+    ensures rows { IfOk result (λ p. lists_of p.rows.items ≡ owned_by
+        (spread split.now.mb 0 split.now.nprow) rows split.now.nprow) }
+    ensures columns { IfOk result (λ p. lists_of p.columns.items ≡ owned_by
+        (spread split.now.nb 0 split.now.npcol) columns split.now.npcol) }
 {
     let names = piece_names(alloc, split.prefix, split.nprow * split.npcol, split.npcol)?;
     let rows = owned_lists(alloc, rows, split.mb, split.nprow)?;

@@ -18,7 +18,8 @@ use text_io::Pen;
 #[tactic(auto, using(crate::proofs::WritingLemmas::puts_spaced, crate::proofs::WritingLemmas::front_spaced, crate::proofs::WritingLemmas::front_space))]
 fn put_spaced<S: Store>(pen: &mut Pen, store: &mut S, number: u32) -> Result<(), StoreErr>
     requires { IsTrue (S.state store.old).writing }
-    ensures puts { IsTrue (S.state store.old).told → Puts result (S.state store.old) (S.state store.new) pen.old pen.new (spaced number) }
+    ensures puts { IsTrue (S.state store.old).told →
+        Puts result (S.state store.old) (S.state store.new) pen.old pen.new (spaced number) }
     ensures writes { Writes result (S.state store.old) (S.state store.new) }
 {
     match pen.put(store, b" ") {
@@ -36,7 +37,9 @@ fn put_spaced<S: Store>(pen: &mut Pen, store: &mut S, number: u32) -> Result<(),
 #[tactic(auto, using(text_io::proofs::Putting::puts_none, crate::proofs::WritingLemmas::puts_number, crate::proofs::WritingLemmas::front_number, crate::proofs::WritingLemmas::all_numbers))]
 fn put_numbers<S: Store>(pen: &mut Pen, store: &mut S, numbers: &[u32]) -> Result<(), StoreErr>
     requires { IsTrue (S.state store.old).writing }
-    ensures puts { IsTrue (S.state store.old).told → Puts result (S.state store.old) (S.state store.new) pen.old pen.new (flat_map spaced numbers.now) }
+    ensures puts { IsTrue (S.state store.old).told →
+        Puts result (S.state store.old) (S.state store.new) pen.old pen.new
+        (flat_map spaced numbers.now) }
     ensures writes { Writes result (S.state store.old) (S.state store.new) }
 {
     for number in numbers {
@@ -51,7 +54,8 @@ fn put_numbers<S: Store>(pen: &mut Pen, store: &mut S, numbers: &[u32]) -> Resul
 #[tactic(auto, unfolding(crate::specs::Piece::desc_word))]
 fn put_desc_word<S: Store>(pen: &mut Pen, store: &mut S) -> Result<(), StoreErr>
     requires { IsTrue (S.state store.old).writing }
-    ensures puts { IsTrue (S.state store.old).told → Puts result (S.state store.old) (S.state store.new) pen.old pen.new desc_word }
+    ensures puts { IsTrue (S.state store.old).told →
+        Puts result (S.state store.old) (S.state store.new) pen.old pen.new desc_word }
     ensures writes { Writes result (S.state store.old) (S.state store.new) }
 {
     pen.put(store, b"%DESC")
@@ -60,7 +64,9 @@ fn put_desc_word<S: Store>(pen: &mut Pen, store: &mut S) -> Result<(), StoreErr>
 #[tactic(auto, unfolding(crate::specs::Piece::desc_numbers))]
 fn put_desc_numbers<S: Store>(pen: &mut Pen, store: &mut S, head: &Head) -> Result<(), StoreErr>
     requires { IsTrue (S.state store.old).writing }
-    ensures puts { IsTrue (S.state store.old).told → Puts result (S.state store.old) (S.state store.new) pen.old pen.new (desc_numbers (head_view head.now)) }
+    ensures puts { IsTrue (S.state store.old).told →
+        Puts result (S.state store.old) (S.state store.new) pen.old pen.new
+        (desc_numbers (head_view head.now)) }
     ensures writes { Writes result (S.state store.old) (S.state store.new) }
 {
     put_numbers(pen, store, &head.numbers())
@@ -69,7 +75,9 @@ fn put_desc_numbers<S: Store>(pen: &mut Pen, store: &mut S, head: &Head) -> Resu
 #[tactic(auto, using(text_io::proofs::Putting::puts_then, text_io::proofs::Putting::front_then, text_io::proofs::Putting::front_more))]
 fn put_desc_words<S: Store>(pen: &mut Pen, store: &mut S, head: &Head) -> Result<(), StoreErr>
     requires { IsTrue (S.state store.old).writing }
-    ensures puts { IsTrue (S.state store.old).told → Puts result (S.state store.old) (S.state store.new) pen.old pen.new (desc_line (head_view head.now)) }
+    ensures puts { IsTrue (S.state store.old).told →
+        Puts result (S.state store.old) (S.state store.new) pen.old pen.new
+        (desc_line (head_view head.now)) }
     ensures writes { Writes result (S.state store.old) (S.state store.new) }
 {
     match put_desc_word(pen, store) {
@@ -82,7 +90,9 @@ fn put_desc_words<S: Store>(pen: &mut Pen, store: &mut S, head: &Head) -> Result
 #[tactic(auto, using(text_io::proofs::Putting::puts_then, text_io::proofs::Putting::front_then, text_io::proofs::Putting::front_more))]
 fn put_desc<S: Store>(pen: &mut Pen, store: &mut S, head: &Head) -> Result<(), StoreErr>
     requires { IsTrue (S.state store.old).writing }
-    ensures puts { IsTrue (S.state store.old).told → Puts result (S.state store.old) (S.state store.new) pen.old pen.new (ended (desc_line (head_view head.now))) }
+    ensures puts { IsTrue (S.state store.old).told →
+        Puts result (S.state store.old) (S.state store.new) pen.old pen.new
+        (ended (desc_line (head_view head.now))) }
     ensures writes { Writes result (S.state store.old) (S.state store.new) }
 {
     match put_desc_words(pen, store, head) {
@@ -95,7 +105,9 @@ fn put_desc<S: Store>(pen: &mut Pen, store: &mut S, head: &Head) -> Result<(), S
 #[tactic(auto, using(text_io::proofs::Putting::puts_then, text_io::proofs::Putting::front_then, text_io::proofs::Putting::front_more))]
 fn put_head<S: Store>(pen: &mut Pen, store: &mut S, head: &Head) -> Result<(), StoreErr>
     requires { IsTrue (S.state store.old).writing }
-    ensures puts { IsTrue (S.state store.old).told → Puts result (S.state store.old) (S.state store.new) pen.old pen.new (ended banner_line ++ ended (desc_line (head_view head.now))) }
+    ensures puts { IsTrue (S.state store.old).told →
+        Puts result (S.state store.old) (S.state store.new) pen.old pen.new
+        (ended banner_line ++ ended (desc_line (head_view head.now))) }
     ensures writes { Writes result (S.state store.old) (S.state store.new) }
 {
     match put_banner(pen, store) {
@@ -108,7 +120,9 @@ fn put_head<S: Store>(pen: &mut Pen, store: &mut S, head: &Head) -> Result<(), S
 #[tactic(auto, using(crate::proofs::WritingLemmas::front_head, crate::proofs::WritingLemmas::front_cells, crate::proofs::WritingLemmas::pours_piece, crate::proofs::WritingLemmas::front_piece))]
 fn put_piece<S: Store, C: Cells>(store: &mut S, head: &Head, cells: &C) -> Result<(), StoreErr>
     requires { IsTrue (S.state store.old).writing }
-    ensures pours { IsTrue (S.state store.old).told → Pours result (S.state store.old) (S.state store.new) (piece_text (head_view head.now) (C.matrix cells.now)) }
+    ensures pours { IsTrue (S.state store.old).told →
+        Pours result (S.state store.old) (S.state store.new)
+        (piece_text (head_view head.now) (C.matrix cells.now)) }
     ensures writes { Writes result (S.state store.old) (S.state store.new) }
 {
     let mut pen = Pen::new();
@@ -135,7 +149,9 @@ pub(crate) fn write_piece<S: Store, C: Cells>(
     head: &Head,
     cells: &C,
 ) -> Result<(), StoreErr>
-    ensures saves { IsTrue (S.state store.old).told → Saves result (S.state store.old).files (S.state store.new).files name.now (piece_text (head_view head.now) (C.matrix cells.now)) }
+    ensures saves { IsTrue (S.state store.old).told →
+        Saves result (S.state store.old).files (S.state store.new).files name.now
+        (piece_text (head_view head.now) (C.matrix cells.now)) }
     ensures opens { OpensOnce (S.state store.old) (S.state store.new) }
     ensures cause { SavesCause result (S.state store.old) (S.state store.new) }
 {

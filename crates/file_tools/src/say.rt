@@ -12,7 +12,8 @@ use store_io::{Sink, SinkErr, sink_all};
 // Appends a piece of a line.
 #[tactic(auto, using(crate::proofs::SayingLemmas::says_front))]
 fn say<E: Sink>(err: &mut E, text: &[u8]) -> Result<(), SinkErr>
-    ensures says { IsTrue (E.state err.old).told → Says result (E.state err.old) (E.state err.new) text.now }
+    ensures says { IsTrue (E.state err.old).told →
+        Says result (E.state err.old) (E.state err.new) text.now }
     ensures tells { Tells result (E.state err.old) (E.state err.new) }
 {
     match sink_all(err, text) {
@@ -24,7 +25,8 @@ fn say<E: Sink>(err: &mut E, text: &[u8]) -> Result<(), SinkErr>
 // A name and a text behind it.
 #[tactic(auto, using(crate::proofs::SayingLemmas::says_then, crate::proofs::SayingLemmas::front_then, crate::proofs::SayingLemmas::front_more))]
 fn say_both<E: Sink>(err: &mut E, first: &[u8], second: &[u8]) -> Result<(), SinkErr>
-    ensures says { IsTrue (E.state err.old).told → Says result (E.state err.old) (E.state err.new) (first.now ++ second.now) }
+    ensures says { IsTrue (E.state err.old).told →
+        Says result (E.state err.old) (E.state err.new) (first.now ++ second.now) }
     ensures tells { Tells result (E.state err.old) (E.state err.new) }
 {
     match say(err, first) {
@@ -35,7 +37,8 @@ fn say_both<E: Sink>(err: &mut E, first: &[u8], second: &[u8]) -> Result<(), Sin
 
 #[tactic(auto, unfolding(crate::specs::Texts::tool_name))]
 fn say_tool<E: Sink>(err: &mut E) -> Result<(), SinkErr>
-    ensures says { IsTrue (E.state err.old).told → Says result (E.state err.old) (E.state err.new) tool_name }
+    ensures says { IsTrue (E.state err.old).told →
+        Says result (E.state err.old) (E.state err.new) tool_name }
     ensures tells { Tells result (E.state err.old) (E.state err.new) }
 {
     say(err, b"gridtool: ")
@@ -44,7 +47,8 @@ fn say_tool<E: Sink>(err: &mut E) -> Result<(), SinkErr>
 /// The line on a file.
 #[tactic(auto, using(crate::proofs::SayingLemmas::says_then, crate::proofs::SayingLemmas::front_then, crate::proofs::SayingLemmas::front_more))]
 fn say_about<E: Sink>(err: &mut E, name: &str, complaint: Complaint) -> Result<(), SinkErr>
-    ensures says { IsTrue (E.state err.old).told → Says result (E.state err.old) (E.state err.new) (about name.now (text_of complaint)) }
+    ensures says { IsTrue (E.state err.old).told →
+        Says result (E.state err.old) (E.state err.new) (about name.now (text_of complaint)) }
     ensures tells { Tells result (E.state err.old) (E.state err.new) }
 {
     match say_tool(err) {
@@ -55,7 +59,8 @@ fn say_about<E: Sink>(err: &mut E, name: &str, complaint: Complaint) -> Result<(
 
 #[tactic(auto, unfolding(crate::specs::Texts::too_many))]
 fn say_limit<E: Sink>(err: &mut E) -> Result<(), SinkErr>
-    ensures says { IsTrue (E.state err.old).told → Says result (E.state err.old) (E.state err.new) too_many }
+    ensures says { IsTrue (E.state err.old).told →
+        Says result (E.state err.old) (E.state err.new) too_many }
     ensures tells { Tells result (E.state err.old) (E.state err.new) }
 {
     say(err, b"gridtool: too many words: ")
@@ -64,7 +69,8 @@ fn say_limit<E: Sink>(err: &mut E) -> Result<(), SinkErr>
 /// The line on a job above the limit.
 #[tactic(auto, using(crate::proofs::SayingLemmas::says_then, crate::proofs::SayingLemmas::front_then, crate::proofs::SayingLemmas::front_more))]
 fn say_too_many<E: Sink>(err: &mut E, words: u64) -> Result<(), SinkErr>
-    ensures says { IsTrue (E.state err.old).told → Says result (E.state err.old) (E.state err.new) (too_many_words words) }
+    ensures says { IsTrue (E.state err.old).told →
+        Says result (E.state err.old) (E.state err.new) (too_many_words words) }
     ensures tells { Tells result (E.state err.old) (E.state err.new) }
 {
     match say_limit(err) {
@@ -79,7 +85,8 @@ fn say_too_many<E: Sink>(err: &mut E, words: u64) -> Result<(), SinkErr>
 /// The usage of the commands.
 #[tactic(auto, unfolding(crate::specs::Texts::usage))]
 fn say_usage<E: Sink>(err: &mut E) -> Result<(), SinkErr>
-    ensures says { IsTrue (E.state err.old).told → Says result (E.state err.old) (E.state err.new) usage }
+    ensures says { IsTrue (E.state err.old).told →
+        Says result (E.state err.old) (E.state err.new) usage }
     ensures tells { Tells result (E.state err.old) (E.state err.new) }
 {
     say(err, b"usage: gridtool split IN OUT P Q MB NB\n")
@@ -88,7 +95,8 @@ fn say_usage<E: Sink>(err: &mut E) -> Result<(), SinkErr>
 /// The line on want of memory.
 #[tactic(auto, unfolding(crate::specs::Texts::out_of_memory))]
 fn say_out_of_memory<E: Sink>(err: &mut E) -> Result<(), SinkErr>
-    ensures says { IsTrue (E.state err.old).told → Says result (E.state err.old) (E.state err.new) out_of_memory }
+    ensures says { IsTrue (E.state err.old).told →
+        Says result (E.state err.old) (E.state err.new) out_of_memory }
     ensures tells { Tells result (E.state err.old) (E.state err.new) }
 {
     say(err, b"gridtool: out of memory\n")
@@ -97,7 +105,8 @@ fn say_out_of_memory<E: Sink>(err: &mut E) -> Result<(), SinkErr>
 /// Tells of a file; a fault of the stream changes nothing.
 #[tactic(auto, using(crate::proofs::SayingLemmas::gains_all, crate::proofs::SayingLemmas::gains_front))]
 pub(crate) fn tell_about<E: Sink>(err: &mut E, name: &str, complaint: Complaint)
-    ensures gains { IsTrue (E.state err.old).told → Gains (E.state err.old) (E.state err.new) (about name.now (text_of complaint)) }
+    ensures gains { IsTrue (E.state err.old).told →
+        Gains (E.state err.old) (E.state err.new) (about name.now (text_of complaint)) }
     ensures told { (E.state err.new).told ≡ (E.state err.old).told }
 {
     match say_about(err, name, complaint) {
@@ -109,7 +118,8 @@ pub(crate) fn tell_about<E: Sink>(err: &mut E, name: &str, complaint: Complaint)
 /// Tells of a job above the limit; a fault of the stream changes nothing.
 #[tactic(auto, using(crate::proofs::SayingLemmas::gains_all, crate::proofs::SayingLemmas::gains_front))]
 pub(crate) fn tell_too_many<E: Sink>(err: &mut E, words: u64)
-    ensures gains { IsTrue (E.state err.old).told → Gains (E.state err.old) (E.state err.new) (too_many_words words) }
+    ensures gains { IsTrue (E.state err.old).told →
+        Gains (E.state err.old) (E.state err.new) (too_many_words words) }
     ensures told { (E.state err.new).told ≡ (E.state err.old).told }
 {
     match say_too_many(err, words) {
@@ -133,7 +143,8 @@ pub(crate) fn tell_usage<E: Sink>(err: &mut E)
 /// Tells of want of memory; a fault of the stream changes nothing.
 #[tactic(auto, using(crate::proofs::SayingLemmas::gains_all, crate::proofs::SayingLemmas::gains_front))]
 pub(crate) fn tell_out_of_memory<E: Sink>(err: &mut E)
-    ensures gains { IsTrue (E.state err.old).told → Gains (E.state err.old) (E.state err.new) out_of_memory }
+    ensures gains { IsTrue (E.state err.old).told →
+        Gains (E.state err.old) (E.state err.new) out_of_memory }
     ensures told { (E.state err.new).told ≡ (E.state err.old).told }
 {
     match say_out_of_memory(err) {

@@ -90,8 +90,10 @@ fn list_at(lists: &[Vec<u32>], i: u32) -> &[u32]
 // The local array of piece `k`.
 #[tactic(auto, using(crate::proofs::ListLemmas::list_fits))]
 fn piece_at<'a>(split: &Split<'_>, whole: &'a Whole, pieces: &'a Pieces, k: u32) -> Piece<'a>
-    requires rows { lists_of pieces.now.rows.items ≡ owned_by (spread split.now.mb 0 split.now.nprow) whole.now.rows split.now.nprow }
-    requires columns { lists_of pieces.now.columns.items ≡ owned_by (spread split.now.nb 0 split.now.npcol) whole.now.columns split.now.npcol }
+    requires rows { lists_of pieces.now.rows.items ≡ owned_by (spread split.now.mb 0 split.now.nprow)
+        whole.now.rows split.now.nprow }
+    requires columns { lists_of pieces.now.columns.items ≡ owned_by
+        (spread split.now.nb 0 split.now.npcol) whole.now.columns split.now.npcol }
     requires piece { k < split.now.nprow * split.now.npcol }
     ensures { piece_matrix result ≡ cells_of (seen split.now) (matrix_of whole.now) k }
 {
@@ -112,11 +114,16 @@ fn save_piece<S: Store>(
     pieces: &Pieces,
     k: u32,
 ) -> Result<(), StoreErr>
-    requires names { texts_of pieces.now.names.items ≡ names_by split.now.prefix.now split.now.npcol (split.now.nprow * split.now.npcol) }
-    requires rows { lists_of pieces.now.rows.items ≡ owned_by (spread split.now.mb 0 split.now.nprow) whole.now.rows split.now.nprow }
-    requires columns { lists_of pieces.now.columns.items ≡ owned_by (spread split.now.nb 0 split.now.npcol) whole.now.columns split.now.npcol }
+    requires names { texts_of pieces.now.names.items ≡ names_by split.now.prefix.now split.now.npcol
+        (split.now.nprow * split.now.npcol) }
+    requires rows { lists_of pieces.now.rows.items ≡ owned_by (spread split.now.mb 0 split.now.nprow)
+        whole.now.rows split.now.nprow }
+    requires columns { lists_of pieces.now.columns.items ≡ owned_by
+        (spread split.now.nb 0 split.now.npcol) whole.now.columns split.now.npcol }
     requires piece { k < split.now.nprow * split.now.npcol }
-    ensures saves { IsTrue (S.state store.old).told → Saves result (S.state store.old).files (S.state store.new).files (name_of (seen split.now) k) (text_of (seen split.now) (matrix_of whole.now) k) }
+    ensures saves { IsTrue (S.state store.old).told →
+        Saves result (S.state store.old).files (S.state store.new).files (name_of (seen split.now) k)
+        (text_of (seen split.now) (matrix_of whole.now) k) }
     ensures opens { OpensOnce (S.state store.old) (S.state store.new) }
     ensures cause { SavesCause result (S.state store.old) (S.state store.new) }
 {
@@ -133,10 +140,15 @@ fn save_pieces<S: Store>(
     whole: &Whole,
     pieces: &Pieces,
 ) -> Result<(), u32>
-    requires names { texts_of pieces.now.names.items ≡ names_by split.now.prefix.now split.now.npcol (split.now.nprow * split.now.npcol) }
-    requires rows { lists_of pieces.now.rows.items ≡ owned_by (spread split.now.mb 0 split.now.nprow) whole.now.rows split.now.nprow }
-    requires columns { lists_of pieces.now.columns.items ≡ owned_by (spread split.now.nb 0 split.now.npcol) whole.now.columns split.now.npcol }
-    ensures saves { IsTrue (S.state store.old).told → SavesPieces result (S.state store.old).files (S.state store.new).files (seen split.now) (matrix_of whole.now) }
+    requires names { texts_of pieces.now.names.items ≡ names_by split.now.prefix.now split.now.npcol
+        (split.now.nprow * split.now.npcol) }
+    requires rows { lists_of pieces.now.rows.items ≡ owned_by (spread split.now.mb 0 split.now.nprow)
+        whole.now.rows split.now.nprow }
+    requires columns { lists_of pieces.now.columns.items ≡ owned_by
+        (spread split.now.nb 0 split.now.npcol) whole.now.columns split.now.npcol }
+    ensures saves { IsTrue (S.state store.old).told →
+        SavesPieces result (S.state store.old).files (S.state store.new).files (seen split.now)
+        (matrix_of whole.now) }
     ensures failed { IfErr result (λ k. k < split.now.nprow * split.now.npcol) }
     ensures cause { SavesAllCause result (S.state store.old) (S.state store.new) }
 {
@@ -165,11 +177,16 @@ pub(crate) fn run_split<S: Store, E: Sink>(
     store: &mut S,
     err: &mut E,
 ) -> Status
-    ensures answered { IsTrue (S.state store.old).told → IsAnswered result (split_answer (seen split.now) (S.state store.old).files) (S.state store.old) (S.state store.new) }
+    ensures answered { IsTrue (S.state store.old).told →
+        IsAnswered result (split_answer (seen split.now) (S.state store.old).files) (S.state store.old)
+        (S.state store.new) }
     ensures in_table { result ≡ Status.Words → ⊥ }
     ensures counted { IsCounted result (S.state store.old) (S.state store.new) }
-    ensures opened { IsOpened result (split_answer (seen split.now) (S.state store.old).files) (S.state store.old) (S.state store.new) }
-    ensures told { IsTrue (S.state store.old).told → IsTrue (E.state err.old).told → IsTold result (split_answer (seen split.now) (S.state store.old).files) (Some (seen split.now)) (S.state store.old) (S.state store.new) (E.state err.old) (E.state err.new) }
+    ensures opened { IsOpened result (split_answer (seen split.now) (S.state store.old).files)
+        (S.state store.old) (S.state store.new) }
+    ensures told { IsTrue (S.state store.old).told → IsTrue (E.state err.old).told →
+        IsTold result (split_answer (seen split.now) (S.state store.old).files) (Some (seen split.now))
+        (S.state store.old) (S.state store.new) (E.state err.old) (E.state err.new) }
 {
     let whole = match read_matrix(alloc, store, split.input) {
         Ok(whole) => whole,
@@ -196,7 +213,8 @@ pub(crate) fn run_split<S: Store, E: Sink>(
 // Tells why no matrix was read.
 fn refuse<E: Sink>(err: &mut E, name: &str, error: LoadErr) -> Status
     ensures status { result ≡ load_status error }
-    ensures gains { IsTrue (E.state err.old).told → Gains (E.state err.old) (E.state err.new) (load_line error name.now) }
+    ensures gains { IsTrue (E.state err.old).told →
+        Gains (E.state err.old) (E.state err.new) (load_line error name.now) }
 {
     match error {
         LoadErr::Missing => {

@@ -27,14 +27,21 @@ pub fn plain_tool<S: Store, O: Sink, E: Sink>(
     out: &mut O,
     err: &mut E,
 ) -> Status
-    ensures answered { IsTrue (S.state store.old).told → IsAnswered result (answer (map string_bytes words.now) (S.state store.old).files) (S.state store.old) (S.state store.new) }
+    ensures answered { IsTrue (S.state store.old).told →
+        IsAnswered result (answer (map string_bytes words.now) (S.state store.old).files)
+        (S.state store.old) (S.state store.new) }
     ensures pieces { SpreadsByHome }
     ensures words { (result ≡ Status.Words) ↔ (asked (map string_bytes words.now) ≡ None) }
-    ensures shown { result ≡ Status.Words → IsTrue (E.state err.old).told → Gains (E.state err.old) (E.state err.new) usage }
+    ensures shown { result ≡ Status.Words → IsTrue (E.state err.old).told →
+        Gains (E.state err.old) (E.state err.new) usage }
     ensures counted { IsCounted result (S.state store.old) (S.state store.new) }
-    ensures opened { IsOpened result (answer (map string_bytes words.now) (S.state store.old).files) (S.state store.old) (S.state store.new) }
+    ensures opened { IsOpened result (answer (map string_bytes words.now) (S.state store.old).files)
+        (S.state store.old) (S.state store.new) }
     ensures silent { O.state out.new ≡ O.state out.old }
-    ensures told { IsTrue (S.state store.old).told → IsTrue (E.state err.old).told → IsTold result (answer (map string_bytes words.now) (S.state store.old).files) (asked (map string_bytes words.now)) (S.state store.old) (S.state store.new) (E.state err.old) (E.state err.new) }
+    ensures told { IsTrue (S.state store.old).told → IsTrue (E.state err.old).told →
+        IsTold result (answer (map string_bytes words.now) (S.state store.old).files)
+        (asked (map string_bytes words.now)) (S.state store.old) (S.state store.new) (E.state err.old)
+        (E.state err.new) }
 {
     let Some(split) = read_words(words) else {
         tell_usage(err);

@@ -1,5 +1,5 @@
 //! The words of the command line, read by hand.
-ghost use Rattle.std.specs.Prelude.{◌≡◌, ◌≤◌, ◌^◌, ◌==◌, ◌&&◌, not, nat_le, Some, None, if◌then◌else◌, codes, IsTrue, IfSome, map, string_bytes};
+ghost use Rattle.std.specs.Prelude.{◌≡◌, ◌≤◌, ◌==◌, ◌&&◌, not, nat_le, Some, None, if◌then◌else◌, codes, IfSome, map, string_bytes};
 ghost use Rattle.std.specs.List.{list_any};
 ghost use Rattle.std.specs.Option.{option_map};
 ghost use Rattle.std.specs.Str.{all_ascii_digits};
@@ -45,6 +45,7 @@ fn is_digits(bytes: &[u8]) -> bool
     bytes.iter().all(|byte| byte.is_ascii_digit())
 }
 
+// This number, where it's within these bounds.
 fn within(number: u64, low: u32, high: u32) -> Option<u32>
     ensures value { result ≡ if nat_le low number && nat_le number high then Some number else None }
     ensures low { IfSome result (λ n. low ≤ n) }
@@ -58,7 +59,6 @@ fn within(number: u64, low: u32, high: u32) -> Option<u32>
 }
 
 // A number of 1 to 20 digits without a sign, within these bounds.
-
 fn number(text: &str, low: u32, high: u32) -> Option<u32>
     ensures value { result ≡ number_within low high text.now }
     ensures low { IfSome result (λ n. low ≤ n) }

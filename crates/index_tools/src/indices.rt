@@ -74,7 +74,8 @@ pub fn indxl2g(indxloc: u32, nb: u32, iproc: u32, isrcproc: u32, nprocs: u32) ->
     ensures index { IsIndexAt (spread nb isrcproc nprocs) iproc (indxloc - 1) (result - 1) }
 
     // There is one such index.
-    ensures only { (g : ℕ) → IsIndexAt (spread nb isrcproc nprocs) iproc (indxloc - 1) g → result ≡ g + 1 }
+    ensures only { (g : ℕ) → IsIndexAt (spread nb isrcproc nprocs) iproc (indxloc - 1) g →
+        result ≡ g + 1 }
 {
     let local = indxloc - 1;
     let distance = (nprocs + iproc - isrcproc) % nprocs;

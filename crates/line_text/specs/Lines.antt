@@ -12,6 +12,16 @@ unfoldable pub split_lines : List ℕ → List (List ℕ)
 split_lines [] = []
 split_lines (b ∷ bs) = if b == 10 then [] ∷ split_lines bs else before_first_line b (split_lines bs)
 
+-- the same runs, each with its line end: joined they are the text
+unfoldable pub whole_lines : List ℕ → List (List ℕ)
+whole_lines [] = []
+whole_lines (b ∷ bs) = if b == 10 then (b ∷ []) ∷ whole_lines bs else before_first_line b (whole_lines bs)
+
+-- what stands before the line end
+unfoldable pub without_end : List ℕ → List ℕ
+without_end [] = []
+without_end (b ∷ bs) = if b == 10 then [] else b ∷ without_end bs
+
 -- a line without one carriage return (the byte 13) at its end
 unfoldable pub without_return : List ℕ → List ℕ
 without_return [] = []

@@ -18,7 +18,8 @@ pub trait Cells {
     fn word(&self, i: u32, j: u32) -> i32
         requires row { i < (matrix self.now).rows }
         requires column { j < (matrix self.now).columns }
-        ensures { result ≡ slice_index_or (matrix self.now).values (j * (matrix self.now).rows + i) (pos 0) };
+        ensures { result ≡ slice_index_or (matrix self.now).values (j * (matrix self.now).rows + i)
+            (pos 0) };
 
     ghost whole: { (c : Self) → length (matrix c).values ≡ (matrix c).rows * (matrix c).columns };
 }

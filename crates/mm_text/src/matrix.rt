@@ -50,7 +50,8 @@ fn body<S: Store>(
 ) -> Result<Whole, Halt>
     requires rows_fit { rows ≤ 2 ^ 24 }
     requires columns_fit { columns ≤ 2 ^ 24 }
-    ensures reads { IsTrue (S.state store.old).told → Gives matrix_of result (body_at rows columns (unread window.old (S.state store.old))) }
+    ensures reads { IsTrue (S.state store.old).told →
+        Gives matrix_of result (body_at rows columns (unread window.old (S.state store.old))) }
     ensures ended { IsTrue (S.state store.old).told → OnOk result ((S.state store.new).left ≡ []) }
     ensures takes { Takes result (S.state store.old) (S.state store.new) }
 {
@@ -73,7 +74,8 @@ fn body<S: Store>(
 
 #[tactic(auto, unfolding(crate::specs::PlainReading::matrix_at, crate::specs::PlainText::banner_line))]
 fn matrix<S: Store>(alloc: Global, window: &mut Window, store: &mut S) -> Result<Whole, Halt>
-    ensures reads { IsTrue (S.state store.old).told → Gives matrix_of result (matrix_at (unread window.old (S.state store.old))) }
+    ensures reads { IsTrue (S.state store.old).told →
+        Gives matrix_of result (matrix_at (unread window.old (S.state store.old))) }
     ensures ended { IsTrue (S.state store.old).told → OnOk result ((S.state store.new).left ≡ []) }
     ensures takes { Takes result (S.state store.old) (S.state store.new) }
 {

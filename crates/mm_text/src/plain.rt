@@ -21,7 +21,9 @@ pub(crate) enum Halt {
 #[inline]
 #[tactic(auto, unfolding(crate::specs::PlainReading::next_at))]
 fn next<S: Store>(window: &mut Window, store: &mut S) -> Result<u8, Halt>
-    ensures reads { IsTrue (S.state store.old).told → Reads result (next_at (unread window.old (S.state store.old))) (unread window.new (S.state store.new)) }
+    ensures reads { IsTrue (S.state store.old).told →
+        Reads result (next_at (unread window.old (S.state store.old)))
+        (unread window.new (S.state store.new)) }
     ensures takes { Takes result (S.state store.old) (S.state store.new) }
 {
     match window.more(store) {
@@ -38,7 +40,9 @@ pub(crate) fn expect<S: Store>(
     store: &mut S,
     wanted: &[u8],
 ) -> Result<(), Halt>
-    ensures reads { IsTrue (S.state store.old).told → Reads result (expect_at wanted.now (unread window.old (S.state store.old))) (unread window.new (S.state store.new)) }
+    ensures reads { IsTrue (S.state store.old).told →
+        Reads result (expect_at wanted.now (unread window.old (S.state store.old)))
+        (unread window.new (S.state store.new)) }
     ensures takes { Takes result (S.state store.old) (S.state store.new) }
 {
     for want in wanted {
@@ -82,7 +86,9 @@ fn digits<S: Store>(
 ) -> Result<u32, Halt>
     requires positive { 0 < first }
     requires fits { first ≤ limit }
-    ensures reads { IsTrue (S.state store.old).told → Reads result (digits_until limit stop first (unread window.old (S.state store.old))) (unread window.new (S.state store.new)) }
+    ensures reads { IsTrue (S.state store.old).told →
+        Reads result (digits_until limit stop first (unread window.old (S.state store.old)))
+        (unread window.new (S.state store.new)) }
     ensures takes { Takes result (S.state store.old) (S.state store.new) }
     ensures bound { IfOk result (λ n. n ≤ limit) }
     ensures positive { IfOk result (λ n. 0 < n) }
@@ -114,7 +120,9 @@ fn number_after<S: Store>(
     first: u8,
 ) -> Result<u32, Halt>
     requires { 9 ≤ limit }
-    ensures reads { IsTrue (S.state store.old).told → Reads result (number_from limit stop first (unread window.old (S.state store.old))) (unread window.new (S.state store.new)) }
+    ensures reads { IsTrue (S.state store.old).told →
+        Reads result (number_from limit stop first (unread window.old (S.state store.old)))
+        (unread window.new (S.state store.new)) }
     ensures takes { Takes result (S.state store.old) (S.state store.new) }
     ensures bound { IfOk result (λ n. n ≤ limit) }
     ensures positive { first ≢ 48 → IfOk result (λ n. 0 < n) }
@@ -140,7 +148,9 @@ pub(crate) fn number<S: Store>(
     stop: u8,
 ) -> Result<u32, Halt>
     requires { 9 ≤ limit }
-    ensures reads { IsTrue (S.state store.old).told → Reads result (number_at limit stop (unread window.old (S.state store.old))) (unread window.new (S.state store.new)) }
+    ensures reads { IsTrue (S.state store.old).told →
+        Reads result (number_at limit stop (unread window.old (S.state store.old)))
+        (unread window.new (S.state store.new)) }
     ensures takes { Takes result (S.state store.old) (S.state store.new) }
     ensures bound { IfOk result (λ n. n ≤ limit) }
 {
@@ -162,7 +172,9 @@ pub(crate) fn negated(magnitude: u32) -> i32
 // A value behind its sign.
 #[tactic(auto, unfolding(crate::specs::PlainReading::negative_at))]
 fn negative<S: Store>(window: &mut Window, store: &mut S) -> Result<i32, Halt>
-    ensures reads { IsTrue (S.state store.old).told → Reads result (negative_at (unread window.old (S.state store.old))) (unread window.new (S.state store.new)) }
+    ensures reads { IsTrue (S.state store.old).told →
+        Reads result (negative_at (unread window.old (S.state store.old)))
+        (unread window.new (S.state store.new)) }
     ensures takes { Takes result (S.state store.old) (S.state store.new) }
 {
     let first = match next(window, store) {
@@ -181,7 +193,9 @@ fn negative<S: Store>(window: &mut Window, store: &mut S) -> Result<i32, Halt>
 // A value and the end of its line, byte by byte.
 #[tactic(auto, unfolding(crate::specs::PlainReading::value_at))]
 fn long_value<S: Store>(window: &mut Window, store: &mut S) -> Result<i32, Halt>
-    ensures reads { IsTrue (S.state store.old).told → Reads result (value_at (unread window.old (S.state store.old))) (unread window.new (S.state store.new)) }
+    ensures reads { IsTrue (S.state store.old).told →
+        Reads result (value_at (unread window.old (S.state store.old)))
+        (unread window.new (S.state store.new)) }
     ensures takes { Takes result (S.state store.old) (S.state store.new) }
 {
     let first = match next(window, store) {
@@ -200,7 +214,9 @@ fn long_value<S: Store>(window: &mut Window, store: &mut S) -> Result<i32, Halt>
 // A value and the end of its line.
 #[inline]
 fn value<S: Store>(window: &mut Window, store: &mut S) -> Result<i32, Halt>
-    ensures reads { IsTrue (S.state store.old).told → Reads result (value_at (unread window.old (S.state store.old))) (unread window.new (S.state store.new)) }
+    ensures reads { IsTrue (S.state store.old).told →
+        Reads result (value_at (unread window.old (S.state store.old)))
+        (unread window.new (S.state store.new)) }
     ensures takes { Takes result (S.state store.old) (S.state store.new) }
 {
     if let Some((value, used)) = short_value(window.bytes()) {
@@ -218,7 +234,9 @@ pub(crate) fn values<S: Store>(
     store: &mut S,
     count: u32,
 ) -> Result<Vec<i32>, Halt>
-    ensures reads { IsTrue (S.state store.old).told → ReadsAs (λ v. v.items) result (values_at count (unread window.old (S.state store.old))) (unread window.new (S.state store.new)) }
+    ensures reads { IsTrue (S.state store.old).told →
+        ReadsAs (λ v. v.items) result (values_at count (unread window.old (S.state store.old)))
+        (unread window.new (S.state store.new)) }
     ensures count { IfOk result (λ v. length v.items ≡ count) }
     ensures takes { Takes result (S.state store.old) (S.state store.new) }
 {

@@ -11,7 +11,8 @@ fn short_digits(limit: u32, first: u32, bytes: &[u8]) -> Option<(u32, usize)>
     requires positive { 0 < first }
     requires fits { first ≤ limit }
     ensures within { IfSome result (λ r. r.1 ≤ length bytes.now) }
-    ensures reads { IfSome result (λ r. (rest : List ℕ) → digits_until limit 10 first (bytes.now ++ rest) ≡ Some (r.0, drop r.1 bytes.now ++ rest)) }
+    ensures reads { IfSome result (λ r. (rest : List ℕ) →
+        digits_until limit 10 first (bytes.now ++ rest) ≡ Some (r.0, drop r.1 bytes.now ++ rest)) }
     ensures bound { IfSome result (λ r. r.0 ≤ limit) }
     ensures positive { IfSome result (λ r. 0 < r.0) }
 {
@@ -34,7 +35,8 @@ fn short_digits(limit: u32, first: u32, bytes: &[u8]) -> Option<(u32, usize)>
 fn short_number(limit: u32, bytes: &[u8]) -> Option<(u32, usize)>
     requires { 9 ≤ limit }
     ensures within { IfSome result (λ r. r.1 ≤ length bytes.now) }
-    ensures reads { IfSome result (λ r. (rest : List ℕ) → number_at limit 10 (bytes.now ++ rest) ≡ Some (r.0, drop r.1 bytes.now ++ rest)) }
+    ensures reads { IfSome result (λ r. (rest : List ℕ) →
+        number_at limit 10 (bytes.now ++ rest) ≡ Some (r.0, drop r.1 bytes.now ++ rest)) }
     ensures bound { IfSome result (λ r. r.0 ≤ limit) }
     ensures positive { IfSome result (λ r. 0 < r.0) }
 {
@@ -52,7 +54,8 @@ fn short_number(limit: u32, bytes: &[u8]) -> Option<(u32, usize)>
 #[tactic(auto, using(crate::proofs::ShortLaws::short_negative, crate::proofs::ShortLaws::short_positive))]
 pub(crate) fn short_value(bytes: &[u8]) -> Option<(i32, usize)>
     ensures within { IfSome result (λ r. r.1 ≤ length bytes.now) }
-    ensures reads { IfSome result (λ r. (rest : List ℕ) → value_at (bytes.now ++ rest) ≡ Some (r.0, drop r.1 bytes.now ++ rest)) }
+    ensures reads { IfSome result (λ r. (rest : List ℕ) →
+        value_at (bytes.now ++ rest) ≡ Some (r.0, drop r.1 bytes.now ++ rest)) }
 {
     let (first, others) = bytes.split_first()?;
     if *first == b'-' {

@@ -19,7 +19,8 @@ const BANNER: &[u8; 43] = b"%%MatrixMarket matrix array integer general";
 #[tactic(auto, unfolding(crate::specs::PlainText::banner_line))]
 pub fn put_banner<S: Store>(pen: &mut Pen, store: &mut S) -> Result<(), StoreErr>
     requires { IsTrue (S.state store.old).writing }
-    ensures puts { IsTrue (S.state store.old).told → Puts result (S.state store.old) (S.state store.new) pen.old pen.new (ended banner_line) }
+    ensures puts { IsTrue (S.state store.old).told →
+        Puts result (S.state store.old) (S.state store.new) pen.old pen.new (ended banner_line) }
     ensures writes { Writes result (S.state store.old) (S.state store.new) }
 {
     pen.put_ended(store, BANNER, b'\n')
@@ -33,7 +34,9 @@ pub fn put_number<S: Store>(
     end: u8,
 ) -> Result<(), StoreErr>
     requires { IsTrue (S.state store.old).writing }
-    ensures puts { IsTrue (S.state store.old).told → Puts result (S.state store.old) (S.state store.new) pen.old pen.new (decimal number ++ end ∷ []) }
+    ensures puts { IsTrue (S.state store.old).told →
+        Puts result (S.state store.old) (S.state store.new) pen.old pen.new
+        (decimal number ++ end ∷ []) }
     ensures writes { Writes result (S.state store.old) (S.state store.new) }
 {
     let mut buffer = Buffer::new();
@@ -44,7 +47,9 @@ pub fn put_number<S: Store>(
 #[inline]
 fn put_value<S: Store>(pen: &mut Pen, store: &mut S, value: i32) -> Result<(), StoreErr>
     requires { IsTrue (S.state store.old).writing }
-    ensures puts { IsTrue (S.state store.old).told → Puts result (S.state store.old) (S.state store.new) pen.old pen.new (ended (signed_decimal value)) }
+    ensures puts { IsTrue (S.state store.old).told →
+        Puts result (S.state store.old) (S.state store.new) pen.old pen.new
+        (ended (signed_decimal value)) }
     ensures writes { Writes result (S.state store.old) (S.state store.new) }
 {
     let mut buffer = Buffer::new();
@@ -60,8 +65,10 @@ fn put_column<S: Store, C: Cells>(
 ) -> Result<(), StoreErr>
     requires open { IsTrue (S.state store.old).writing }
     requires column { j < (C.matrix cells.now).columns }
-    requires whole { length (C.matrix cells.now).values ≡ (C.matrix cells.now).rows * (C.matrix cells.now).columns }
-    ensures puts { IsTrue (S.state store.old).told → Puts result (S.state store.old) (S.state store.new) pen.old pen.new
+    requires whole { length (C.matrix cells.now).values ≡ (C.matrix cells.now).rows *
+        (C.matrix cells.now).columns }
+    ensures puts { IsTrue (S.state store.old).told →
+        Puts result (S.state store.old) (S.state store.new) pen.old pen.new
         (text_of_lines (map signed_decimal (take (C.matrix cells.now).rows (drop (j * (C.matrix cells.now).rows) (C.matrix cells.now).values)))) }
     ensures writes { Writes result (S.state store.old) (S.state store.new) }
 {
@@ -77,8 +84,11 @@ fn put_column<S: Store, C: Cells>(
 #[tactic(auto, using(text_io::proofs::Putting::puts_none, crate::proofs::Values::puts_column, crate::proofs::Values::front_column, crate::proofs::Values::all_columns))]
 fn put_columns<S: Store, C: Cells>(pen: &mut Pen, store: &mut S, cells: &C) -> Result<(), StoreErr>
     requires open { IsTrue (S.state store.old).writing }
-    requires whole { length (C.matrix cells.now).values ≡ (C.matrix cells.now).rows * (C.matrix cells.now).columns }
-    ensures puts { IsTrue (S.state store.old).told → Puts result (S.state store.old) (S.state store.new) pen.old pen.new (text_of_lines (map signed_decimal (C.matrix cells.now).values)) }
+    requires whole { length (C.matrix cells.now).values ≡ (C.matrix cells.now).rows *
+        (C.matrix cells.now).columns }
+    ensures puts { IsTrue (S.state store.old).told →
+        Puts result (S.state store.old) (S.state store.new) pen.old pen.new
+        (text_of_lines (map signed_decimal (C.matrix cells.now).values)) }
     ensures writes { Writes result (S.state store.old) (S.state store.new) }
 {
     for j in 0..cells.columns() {
@@ -93,7 +103,9 @@ fn put_columns<S: Store, C: Cells>(pen: &mut Pen, store: &mut S, cells: &C) -> R
 #[tactic(auto, using(crate::proofs::Values::puts_size, crate::proofs::Values::front_size, crate::proofs::Values::front_rows))]
 fn put_size<S: Store>(pen: &mut Pen, store: &mut S, rows: u32, columns: u32) -> Result<(), StoreErr>
     requires { IsTrue (S.state store.old).writing }
-    ensures puts { IsTrue (S.state store.old).told → Puts result (S.state store.old) (S.state store.new) pen.old pen.new (ended (size_line rows columns)) }
+    ensures puts { IsTrue (S.state store.old).told →
+        Puts result (S.state store.old) (S.state store.new) pen.old pen.new
+        (ended (size_line rows columns)) }
     ensures writes { Writes result (S.state store.old) (S.state store.new) }
 {
     match put_number(pen, store, rows, b' ') {
@@ -110,7 +122,9 @@ pub fn put_cells<S: Store, C: Cells>(
     cells: &C,
 ) -> Result<(), StoreErr>
     requires { IsTrue (S.state store.old).writing }
-    ensures puts { IsTrue (S.state store.old).told → Puts result (S.state store.old) (S.state store.new) pen.old pen.new (text_of_lines (cell_lines (C.matrix cells.now))) }
+    ensures puts { IsTrue (S.state store.old).told →
+        Puts result (S.state store.old) (S.state store.new) pen.old pen.new
+        (text_of_lines (cell_lines (C.matrix cells.now))) }
     ensures writes { Writes result (S.state store.old) (S.state store.new) }
 {
     match put_size(pen, store, cells.rows(), cells.columns()) {
@@ -123,7 +137,8 @@ pub fn put_cells<S: Store, C: Cells>(
 #[tactic(auto, using(text_io::proofs::Putting::front_more, crate::proofs::WholeTexts::front_cells, crate::proofs::WholeTexts::pours_matrix, crate::proofs::WholeTexts::front_matrix), unfolding(crate::specs::PlainText::plain_text))]
 fn put_matrix<S: Store, C: Cells>(store: &mut S, cells: &C) -> Result<(), StoreErr>
     requires { IsTrue (S.state store.old).writing }
-    ensures pours { IsTrue (S.state store.old).told → Pours result (S.state store.old) (S.state store.new) (plain_text (C.matrix cells.now)) }
+    ensures pours { IsTrue (S.state store.old).told →
+        Pours result (S.state store.old) (S.state store.new) (plain_text (C.matrix cells.now)) }
     ensures writes { Writes result (S.state store.old) (S.state store.new) }
 {
     let mut pen = Pen::new();
@@ -153,7 +168,9 @@ pub fn write_matrix<S: Store, C: Cells>(
     requires rows { (C.matrix cells.now).rows ≤ 2 ^ 24 }
     requires columns { (C.matrix cells.now).columns ≤ 2 ^ 24 }
     requires area { (C.matrix cells.now).rows * (C.matrix cells.now).columns ≤ 2 ^ 26 }
-    ensures saves { IsTrue (S.state store.old).told → Saves result (S.state store.old).files (S.state store.new).files name.now (plain_text (C.matrix cells.now)) }
+    ensures saves { IsTrue (S.state store.old).told →
+        Saves result (S.state store.old).files (S.state store.new).files name.now
+        (plain_text (C.matrix cells.now)) }
     ensures back { IsMatrix (C.matrix cells.now) → ReadsBack (C.matrix cells.now) }
     ensures opens { OpensOnce (S.state store.old) (S.state store.new) }
     ensures cause { SavesCause result (S.state store.old) (S.state store.new) }

@@ -78,7 +78,8 @@ pub fn route(alloc: Global, top: Top, n: u32, source: u32) -> Result<Vec<(u32, u
     requires branches { HasBranches top }
     ensures edges { IfOk result (λ edges. edges.items ≡ edges_of top n source) }
     ensures route { IfOk result (λ edges. IsRoute n source edges.items) }
-    ensures near { top ≡ Top.H → IfOk result (λ edges. (d : ℕ) → n ≤ 2 ^ d → (m : ℕ) → m < n → IsWithin edges.items source d m) }
+    ensures near { top ≡ Top.H → IfOk result (λ edges. (d : ℕ) → n ≤ 2 ^ d → (m : ℕ) → m < n →
+        IsWithin edges.items source d m) }
 {
     let mut edges = Vec::with_capacity(alloc, n as usize)?;
     for i in 1..n {

@@ -56,7 +56,8 @@ pub(crate) fn find(
 ) -> Option<Entry>
     requires placed { AllByRecursion (IsPlaced used back (length bytes.now)) entries.now }
     ensures placed { IfSome result (IsPlaced used back (length bytes.now)) }
-    ensures found { MatchOption result (get (files_of bytes.now entries.now) name.now ≡ None) (λ e. get (files_of bytes.now entries.now) name.now ≡ Some (content_of bytes.now e)) }
+    ensures found { MatchOption result (get (files_of bytes.now entries.now) name.now ≡ None)
+        (λ e. get (files_of bytes.now entries.now) name.now ≡ Some (content_of bytes.now e)) }
 {
     for entry in entries {
         if is_named(bytes, *entry, name) {
@@ -79,8 +80,10 @@ pub(crate) fn begin(
     requires room { used + length name.now ≤ back }
     requires fits { back ≤ length bytes.old }
     requires free { place < length entries.old }
-    requires placed { AllByRecursion (IsPlaced used back (length bytes.old)) (drop (place + 1) entries.old) }
-    ensures { Begins used back name.now bytes.old bytes.new (drop (place + 1) entries.old) (drop place entries.new) }
+    requires placed { AllByRecursion (IsPlaced used back (length bytes.old))
+        (drop (place + 1) entries.old) }
+    ensures { Begins used back name.now bytes.old bytes.new (drop (place + 1) entries.old)
+        (drop place entries.new) }
 {
     put_at(bytes, used, name);
     let end = used + name.len();
@@ -106,7 +109,8 @@ pub(crate) fn grow(
     requires placed { AllByRecursion (IsPlaced used back (length bytes.old)) (drop place entries.old) }
     requires front { FrontEnds used (drop place entries.old) }
     requires held { place < length entries.old }
-    ensures { Grows used back piece.now bytes.old bytes.new (drop place entries.old) (drop place entries.new) }
+    ensures { Grows used back piece.now bytes.old bytes.new (drop place entries.old)
+        (drop place entries.new) }
 {
     put_at(bytes, used, piece);
     entries[place].end = used + piece.len();
@@ -126,8 +130,10 @@ pub(crate) fn begin_with(
     requires room { used + (length name.now + length content.now) ≤ back }
     requires fits { back ≤ length bytes.old }
     requires free { place < length entries.old }
-    requires placed { AllByRecursion (IsPlaced used back (length bytes.old)) (drop (place + 1) entries.old) }
-    ensures { Stands used back name.now content.now bytes.old bytes.new (drop (place + 1) entries.old) (drop place entries.new) }
+    requires placed { AllByRecursion (IsPlaced used back (length bytes.old))
+        (drop (place + 1) entries.old) }
+    ensures { Stands used back name.now content.now bytes.old bytes.new (drop (place + 1) entries.old)
+        (drop place entries.new) }
 {
     begin(bytes, used, back, entries, place, name);
     grow(bytes, used + name.len(), back, entries, place, content);
@@ -147,10 +153,12 @@ pub(crate) fn lay(
     requires room { used ≤ at }
     requires fits { at + (length name.now + length content.now) ≤ length bytes.old }
     requires free { place + 1 < length entries.old }
-    requires placed { AllByRecursion (IsPlaced used (at + (length name.now + length content.now)) (length bytes.old)) (drop (place + 1) entries.old) }
+    requires placed { AllByRecursion (IsPlaced used (at + (length name.now + length content.now))
+        (length bytes.old)) (drop (place + 1) entries.old) }
     requires front { FrontEnds used (drop (place + 1) entries.old) }
     requires other { front_name bytes.old (drop (place + 1) entries.old) ≢ name.now }
-    ensures { Lays used at name.now content.now bytes.old bytes.new (drop (place + 1) entries.old) (drop place entries.new) }
+    ensures { Lays used at name.now content.now bytes.old bytes.new (drop (place + 1) entries.old)
+        (drop place entries.new) }
 {
     let content_at = at + name.len();
     put_at(bytes, at, name);
@@ -170,7 +178,8 @@ pub(crate) fn take_part(bytes: &[u8], at: usize, end: usize, room: &mut [u8]) ->
     requires fits { end ≤ length bytes.now }
     ensures bound { result ≤ length room.old }
     ensures within { at + result ≤ end }
-    ensures taken { slice_range bytes.now at end ≡ take result room.new ++ slice_range bytes.now (at + result) end }
+    ensures taken { slice_range bytes.now at end ≡ take result room.new ++ slice_range bytes.now
+        (at + result) end }
     ensures ended { result ≡ 0 → 0 < length room.old → slice_range bytes.now at end ≡ [] }
 {
     let count = room.len().min(end - at);

@@ -26,7 +26,8 @@ impl<R: Files + Drop> DirStore<R> {
     /// A store over the system's files, with nothing open and nothing counted.
     pub fn new(rt: R) -> Self
         ensures told { (⟦<DirStore<R> as Store>⟧.state result).told ≡ false }
-        ensures nothing_open { ((⟦<DirStore<R> as Store>⟧.state result).reading ≡ false) × ((⟦<DirStore<R> as Store>⟧.state result).writing ≡ false) }
+        ensures nothing_open { ((⟦<DirStore<R> as Store>⟧.state result).reading ≡ false) ×
+            ((⟦<DirStore<R> as Store>⟧.state result).writing ≡ false) }
         ensures no_fault { (⟦<DirStore<R> as Store>⟧.state result).faults ≡ 0 }
         ensures no_miss { (⟦<DirStore<R> as Store>⟧.state result).misses ≡ 0 }
         ensures no_opening { (⟦<DirStore<R> as Store>⟧.state result).opens ≡ 0 }

@@ -76,8 +76,10 @@ impl Sink for MemSink {
         ensures nothing { OnErr result (self.new.poured.bytes ≡ self.old.poured.bytes) }
         ensures bound { IfOk result (λ k. k ≤ length piece.now) }
         ensures progress { IfOk result (λ k. 0 < length piece.now → 0 < k) }
-        ensures written { IsTrue self.old.poured.told → IfOk result (λ k. self.new.poured.bytes ≡ self.old.poured.bytes ++ take k piece.now) }
-        ensures failed { IsTrue self.old.poured.told → OnErr result (GrewByFront self.old.poured self.new.poured piece.now) }
+        ensures written { IsTrue self.old.poured.told →
+            IfOk result (λ k. self.new.poured.bytes ≡ self.old.poured.bytes ++ take k piece.now) }
+        ensures failed { IsTrue self.old.poured.told →
+            OnErr result (GrewByFront self.old.poured self.new.poured piece.now) }
         ensures same { self.new.poured.told ≡ self.old.poured.told }
         ensures cause { GivesCause self.old.poured self.new.poured result }
     {

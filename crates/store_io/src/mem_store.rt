@@ -55,8 +55,10 @@ impl MemStore {
     pub fn new(alloc: Global, room: usize, names: usize) -> Result<MemStore, AllocError>
         ensures told { IfOk result (λ s. s.outside.told ≡ true) }
         ensures empty { IfOk result (λ s. s.outside.files ≡ empty) }
-        ensures nothing_open { IfOk result (λ s. (s.outside.reading ≡ false) × (s.outside.left ≡ []) × (s.outside.writing ≡ false)) }
-        ensures no_count { IfOk result (λ s. (s.outside.faults ≡ 0) × (s.outside.misses ≡ 0) × (s.outside.opens ≡ 0)) }
+        ensures nothing_open { IfOk result (λ s. (s.outside.reading ≡ false) × (s.outside.left ≡ []) ×
+            (s.outside.writing ≡ false)) }
+        ensures no_count { IfOk result (λ s. (s.outside.faults ≡ 0) × (s.outside.misses ≡ 0) ×
+            (s.outside.opens ≡ 0)) }
         ensures room { IfOk result (λ s. (s.room ≡ room) × (s.entries ≡ names)) }
     {
         let blank = Entry {
@@ -89,7 +91,8 @@ impl MemStore {
     /// then on, and later writes append to them.
     pub fn put(&mut self, name: &str, bytes: &[u8]) -> bool
         ensures fits { IsTrue result ↔ HasRoom self.old (length name.now + length bytes.now) }
-        ensures set { OnTrue result (self.new.outside.files ≡ insert self.old.outside.files name.now bytes.now) }
+        ensures set { OnTrue result (self.new.outside.files ≡ insert self.old.outside.files name.now
+            bytes.now) }
         ensures spent { OnTrue result (Spends self.old self.new (length name.now + length bytes.now)) }
         ensures open { OnTrue result (KeepsOpen self.old.outside self.new.outside) }
         ensures refused { OnFalse result (self.new ≡ self.old) }
@@ -240,7 +243,8 @@ impl Store for MemStore {
         ensures always { IsOk result }
         ensures room { SameRoom self.old self.new }
         ensures bound { IfOk result (λ k. k ≤ length room.old) }
-        ensures taken { IfOk result (λ k. self.old.outside.left ≡ take k room.new ++ self.new.outside.left) }
+        ensures taken { IfOk result (λ k. self.old.outside.left ≡ take k room.new ++
+            self.new.outside.left) }
         ensures ended { IfOk result (λ k. k ≡ 0 → 0 < length room.old → self.old.outside.left ≡ []) }
         ensures no_input { self.old.outside.reading ≡ false → result ≡ Ok 0 }
         ensures reading { self.new.outside.reading ≡ self.old.outside.reading }
@@ -263,7 +267,8 @@ impl Store for MemStore {
         ensures untouched { OnErr result (self.new.outside.files ≡ self.old.outside.files) }
         ensures opened { OnOk result (self.new.outside.writing ≡ true) }
         ensures named { OnOk result (self.new.outside.output ≡ name.now) }
-        ensures emptied { OnOk result (self.new.outside.files ≡ insert self.old.outside.files name.now []) }
+        ensures emptied { OnOk result (self.new.outside.files ≡ insert self.old.outside.files name.now
+            []) }
         ensures closed { OnErr result (self.new.outside.writing ≡ false) }
         ensures only_failed { IsErrOf result StoreErr.Missing → ⊥ }
         ensures counted { Rose self.old.outside.opens self.new.outside.opens }
@@ -305,7 +310,8 @@ impl Store for MemStore {
         ensures untouched { OnErr result (self.new.outside.files ≡ self.old.outside.files) }
         ensures bound { IfOk result (λ k. k ≤ length piece.now) }
         ensures progress { IfOk result (λ k. 0 < length piece.now → 0 < k) }
-        ensures written { IfOk result (λ k. WritesOn self.old.outside self.new.outside (take k piece.now)) }
+        ensures written { IfOk result (λ k. WritesOn self.old.outside self.new.outside
+            (take k piece.now)) }
         ensures failed { OnErr result (WritesFront self.old.outside self.new.outside piece.now) }
         ensures only_failed { IsErrOf result StoreErr.Missing → ⊥ }
         ensures output { KeepsOutput self.old.outside self.new.outside }

@@ -25,8 +25,10 @@ pub trait Sink {
     fn write(&mut self, piece: &[u8]) -> Result<usize, SinkErr>
         ensures bound { IfOk result (λ k. k ≤ length piece.now) }
         ensures progress { IfOk result (λ k. 0 < length piece.now → 0 < k) }
-        ensures written { IsTrue (state self.old).told → IfOk result (λ k. (state self.new).bytes ≡ (state self.old).bytes ++ take k piece.now) }
-        ensures failed { IsTrue (state self.old).told → OnErr result (GrewByFront (state self.old) (state self.new) piece.now) }
+        ensures written { IsTrue (state self.old).told →
+            IfOk result (λ k. (state self.new).bytes ≡ (state self.old).bytes ++ take k piece.now) }
+        ensures failed { IsTrue (state self.old).told →
+            OnErr result (GrewByFront (state self.old) (state self.new) piece.now) }
         ensures same { (state self.new).told ≡ (state self.old).told }
         ensures cause { GivesCause (state self.old) (state self.new) result };
 }

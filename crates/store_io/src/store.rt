@@ -27,9 +27,11 @@ pub trait Store {
     ///
     /// `Missing` comes where no file has the name, and `Failed` where the store fails; then no input is open.
     fn open_read(&mut self, name: &str) -> Result<(), StoreErr>
-        ensures found { IsTrue (state self.old).told → OnOk result (get (state self.old).files name.now ≡ Some (state self.new).left) }
+        ensures found { IsTrue (state self.old).told →
+            OnOk result (get (state self.old).files name.now ≡ Some (state self.new).left) }
         ensures refused { IsTrue (state self.old).told → OnErr result ((state self.new).left ≡ []) }
-        ensures missing { IsTrue (state self.old).told → IsErrOf result StoreErr.Missing → get (state self.old).files name.now ≡ None }
+        ensures missing { IsTrue (state self.old).told → IsErrOf result StoreErr.Missing →
+            get (state self.old).files name.now ≡ None }
         ensures reading { OnOk result ((state self.new).reading ≡ true) }
         ensures not_reading { OnErr result ((state self.new).reading ≡ false) }
         ensures cause { HasCause (state self.old) (state self.new) result }
@@ -42,9 +44,12 @@ pub trait Store {
     /// After `Failed` the unread bytes are as before.
     fn read(&mut self, room: &mut [u8]) -> Result<usize, StoreErr>
         ensures bound { IfOk result (λ k. k ≤ length room.old) }
-        ensures taken { IsTrue (state self.old).told → IfOk result (λ k. (state self.old).left ≡ take k room.new ++ (state self.new).left) }
-        ensures ended { IsTrue (state self.old).told → IfOk result (λ k. k ≡ 0 → 0 < length room.old → (state self.old).left ≡ []) }
-        ensures kept { IsTrue (state self.old).told → OnErr result ((state self.new).left ≡ (state self.old).left) }
+        ensures taken { IsTrue (state self.old).told →
+            IfOk result (λ k. (state self.old).left ≡ take k room.new ++ (state self.new).left) }
+        ensures ended { IsTrue (state self.old).told →
+            IfOk result (λ k. k ≡ 0 → 0 < length room.old → (state self.old).left ≡ []) }
+        ensures kept { IsTrue (state self.old).told →
+            OnErr result ((state self.new).left ≡ (state self.old).left) }
         ensures no_input { (state self.old).reading ≡ false → result ≡ Ok 0 }
         ensures reading { (state self.new).reading ≡ (state self.old).reading }
         ensures only_failed { IsErrOf result StoreErr.Missing → ⊥ }
@@ -57,9 +62,13 @@ pub trait Store {
     /// After `Failed` no output is open, and the files are as before or the named one is empty.
     fn open_write(&mut self, name: &str) -> Result<(), StoreErr>
         ensures opened { OnOk result ((state self.new).writing ≡ true) }
-        ensures named { IsTrue (state self.old).told → OnOk result ((state self.new).output ≡ name.now) }
-        ensures emptied { IsTrue (state self.old).told → OnOk result ((state self.new).files ≡ insert (state self.old).files name.now []) }
-        ensures refused { IsTrue (state self.old).told → OnErr result (IsEither ((state self.new).files ≡ (state self.old).files) ((state self.new).files ≡ insert (state self.old).files name.now [])) }
+        ensures named { IsTrue (state self.old).told →
+            OnOk result ((state self.new).output ≡ name.now) }
+        ensures emptied { IsTrue (state self.old).told →
+            OnOk result ((state self.new).files ≡ insert (state self.old).files name.now []) }
+        ensures refused { IsTrue (state self.old).told →
+            OnErr result (IsEither ((state self.new).files ≡ (state self.old).files)
+            ((state self.new).files ≡ insert (state self.old).files name.now [])) }
         ensures closed { OnErr result ((state self.new).writing ≡ false) }
         ensures only_failed { IsErrOf result StoreErr.Missing → ⊥ }
         ensures counted { Rose (state self.old).opens (state self.new).opens }
@@ -76,8 +85,10 @@ pub trait Store {
         requires { IsTrue (state self.old).writing }
         ensures bound { IfOk result (λ k. k ≤ length piece.now) }
         ensures progress { IfOk result (λ k. 0 < length piece.now → 0 < k) }
-        ensures written { IsTrue (state self.old).told → IfOk result (λ k. WritesOn (state self.old) (state self.new) (take k piece.now)) }
-        ensures failed { IsTrue (state self.old).told → OnErr result (WritesFront (state self.old) (state self.new) piece.now) }
+        ensures written { IsTrue (state self.old).told →
+            IfOk result (λ k. WritesOn (state self.old) (state self.new) (take k piece.now)) }
+        ensures failed { IsTrue (state self.old).told →
+            OnErr result (WritesFront (state self.old) (state self.new) piece.now) }
         ensures only_failed { IsErrOf result StoreErr.Missing → ⊥ }
         ensures output { KeepsOutput (state self.old) (state self.new) }
         ensures left { IsTrue (state self.old).told → (state self.new).left ≡ (state self.old).left }

@@ -64,7 +64,8 @@ impl Pen {
     #[tactic(auto, using(crate::proofs::Putting::puts_all, crate::proofs::Putting::front_of_all))]
     pub fn flush<S: Store>(&mut self, store: &mut S) -> Result<(), StoreErr>
         requires { IsTrue (S.state store.old).writing }
-        ensures puts { IsTrue (S.state store.old).told → Puts result (S.state store.old) (S.state store.new) self.old self.new [] }
+        ensures puts { IsTrue (S.state store.old).told →
+            Puts result (S.state store.old) (S.state store.new) self.old self.new [] }
         ensures empty { OnOk result (self.new ≡ []) }
         ensures writes { Writes result (S.state store.old) (S.state store.new) }
     {
@@ -82,7 +83,8 @@ impl Pen {
     pub fn put<S: Store>(&mut self, store: &mut S, bytes: &[u8]) -> Result<(), StoreErr>
         requires open { IsTrue (S.state store.old).writing }
         requires short { length bytes.now ≤ 65536 }
-        ensures puts { IsTrue (S.state store.old).told → Puts result (S.state store.old) (S.state store.new) self.old self.new bytes.now }
+        ensures puts { IsTrue (S.state store.old).told →
+            Puts result (S.state store.old) (S.state store.new) self.old self.new bytes.now }
         ensures writes { Writes result (S.state store.old) (S.state store.new) }
     {
         if !self.has_room(bytes.len()) {
@@ -106,7 +108,9 @@ impl Pen {
     ) -> Result<(), StoreErr>
         requires open { IsTrue (S.state store.old).writing }
         requires short { length bytes.now < 65536 }
-        ensures puts { IsTrue (S.state store.old).told → Puts result (S.state store.old) (S.state store.new) self.old self.new (bytes.now ++ end ∷ []) }
+        ensures puts { IsTrue (S.state store.old).told →
+            Puts result (S.state store.old) (S.state store.new) self.old self.new
+            (bytes.now ++ end ∷ []) }
         ensures writes { Writes result (S.state store.old) (S.state store.new) }
     {
         if !self.has_room(bytes.len() + 1) {

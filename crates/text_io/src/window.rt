@@ -75,10 +75,12 @@ impl Window {
     // False where the input has ended.
     fn fill<S: Store>(&mut self, store: &mut S) -> Result<bool, StoreErr>
         requires { self.old ≡ [] }
-        ensures same { IsTrue (S.state store.old).told → IfOk result (λ _. unread self.new (S.state store.new) ≡ (S.state store.old).left) }
+        ensures same { IsTrue (S.state store.old).told →
+            IfOk result (λ _. unread self.new (S.state store.new) ≡ (S.state store.old).left) }
         ensures some { IfOk result (λ more. more ≡ true → 0 < length self.new) }
         ensures none { IfOk result (λ more. more ≡ false → self.new ≡ []) }
-        ensures end { IsTrue (S.state store.old).told → IfOk result (λ more. more ≡ false → (S.state store.old).left ≡ []) }
+        ensures end { IsTrue (S.state store.old).told →
+            IfOk result (λ more. more ≡ false → (S.state store.old).left ≡ []) }
         ensures takes { Takes result (S.state store.old) (S.state store.new) }
     {
         match store.read(self.bytes.as_mut_slice()) {
@@ -94,9 +96,12 @@ impl Window {
     /// Whether another byte is there to look at; false where the input has ended. It reads where the window is empty.
     #[inline]
     pub fn more<S: Store>(&mut self, store: &mut S) -> Result<bool, StoreErr>
-        ensures same { IsTrue (S.state store.old).told → IfOk result (λ _. unread self.new (S.state store.new) ≡ unread self.old (S.state store.old)) }
+        ensures same { IsTrue (S.state store.old).told →
+            IfOk result (λ _. unread self.new (S.state store.new) ≡ unread self.old
+            (S.state store.old)) }
         ensures some { IfOk result (λ more. more ≡ true → 0 < length self.new) }
-        ensures end { IsTrue (S.state store.old).told → IfOk result (λ more. more ≡ false → unread self.old (S.state store.old) ≡ []) }
+        ensures end { IsTrue (S.state store.old).told →
+            IfOk result (λ more. more ≡ false → unread self.old (S.state store.old) ≡ []) }
         ensures takes { Takes result (S.state store.old) (S.state store.new) }
     {
         if self.is_empty() {

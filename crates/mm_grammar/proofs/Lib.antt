@@ -1,0 +1,16 @@
+pub mod Rows
+pub mod Steps
+pub mod Soundness
+pub mod Completeness
+pub mod Laws
+pub mod Written
+pub mod PlainLaws
+pub mod FirstBad
+pub mod Limits
+pub mod Streaming
+pub mod Table
+pub mod Stages
+pub mod Triangles
+pub mod Ranges
+pub mod Elements
+pub mod Mirrors

@@ -1,0 +1,2 @@
+pub mod LocalCells
+pub mod ArrayRefusal
