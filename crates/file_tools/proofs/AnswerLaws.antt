@@ -1,45 +1,52 @@
 -- What the answer to a split is, by what was read.
-use Rattle.std.proofs.Common.{◌≡◌, ℕ, ◌*◌, ◌^◌, ◌<◌, ◌≤◌, Bool, true, false, cond, IsTrue, List, [], Option, Some, None, refl, sym, ap, subst, ◌∙◌, arith, inl, inr, nat_le}
+use Rattle.std.proofs.Common.{◌≡◌, ℕ, ◌*◌, ◌^◌, ◌<◌, ◌≤◌, Bool, true, false, cond, IsTrue, List, [], None, refl, sym, ap, subst, ◌∙◌, arith, inl, inr, nat_le}
 use Rattle.std.specs.FinMap.{get}
 use Rattle.std.proofs.lemmas.Bool.{le-leb, leb-true}
 use Rattle.store_io.specs.Outside.{Outside, Files, Poured, SameCounts, HasFailed, Rose}
-use Rattle.mm_text.specs.Matrix.{Matrix}
-use Rattle.mm_text.specs.PlainText.{IsPlainText}
-use Rattle.mm_text.specs.PlainReading.{matrix_at}
-use Rattle.mm_text.specs.Loading.{matrix_of, HoldsMatrix, HoldsNoPlain, Refuses, Because}
+use Rattle.mm_grammar.specs.Matrix.{Matrix}
+use Rattle.mm_grammar.specs.Width.{width32}
+use Rattle.mm_grammar.specs.MatrixText.{IsMatrixText}
+use Rattle.mm_grammar.specs.MatrixFault.{IsMatrixFault}
+use Rattle.mm_grammar.proofs.Laws.{reading}
+use Rattle.mm_reader.specs.Views.{fault_of, refusal_of}
+use Rattle.mm_reader.specs.declared.fault.MmErr.{MmErr}
+use Rattle.mm_text.specs.Loading.{matrix_of, Holds, Refuses, Because}
 use Rattle.mm_text.specs.declared.cells.Whole.{Whole}
 use Rattle.mm_text.specs.declared.matrix.LoadErr.{LoadErr}
 use Rattle.mm_text.specs.declared.matrix.LoadErr.TheVariants.{Missing, Failed, Mm, NoMemory}
-use Rattle.mm_text.proofs.Laws.{matrix_takes, matrix_again}
-use Rattle.file_tools.specs.Asked.{Split, asked}
-use Rattle.file_tools.specs.Texts.{usage, about, missing, not_plain, too_many_words}
-use Rattle.file_tools.specs.Answer.{Answer, refused, saved, job_words, job_answer, matrix_answer, file_answer, split_answer, command_answer, answer}
-use Rattle.file_tools.specs.Outcome.{IsAnswered, IsCounted, IsOpened, IsTold, Gains, FailedAtPiece}
+use Rattle.file_tools.specs.Asked.{Split}
+use Rattle.file_tools.specs.Texts.{about, missing, too_many_words}
+use Rattle.file_tools.specs.FaultTexts.{matrix_fault_text, at_line}
+use Rattle.file_tools.specs.Answer.{Answer, refused}
+use Rattle.file_tools.specs.SplitAnswer.{saved, job_words, job_answer, matrix_answer, file_answer, split_answer, IsSplitFile}
+use Rattle.file_tools.specs.Outcome.{IsAnswered, IsCounted, IsOpened, IsTold, Gains, FailedAtSave}
 use Rattle.file_tools.specs.Refusals.{load_status, load_line}
-use Rattle.file_tools.specs.declared.status.Status.{Status}
 use Rattle.file_tools.specs.declared.status.Status.TheVariants as status
 
 -- ---- the answer
 
+-- the file is held, and is a text of the matrix
+abbrev pub HoldsMatrix : Files → List ℕ → Whole → Type 0
+HoldsMatrix files name w = Holds files name (λ bytes. IsMatrixText width32 bytes (matrix_of w))
+
+-- the file is held, and has this fault
+abbrev pub HoldsFault : Files → List ℕ → MmErr → Type 0
+HoldsFault files name e = Holds files name (λ bytes. IsMatrixFault width32 bytes (refusal_of e))
+
 pub held_answer : (s : Split) (files : Files) (w : Whole) → HoldsMatrix files s.input w → split_answer s files ≡ job_answer s files (matrix_of w)
-held_answer s files w (bytes, held, plain) =
-    ap (file_answer s files) held ∙ ap (matrix_answer s files) (ap matrix_at plain.text ∙ matrix_again (matrix_of w) plain.matrix)
+held_answer s files w (bytes, held, text) = ap (file_answer s files) held ∙ ap (matrix_answer s files) ((reading width32).reads bytes (matrix_of w) text)
 
-none_read : (bytes : List ℕ) (o : Option Matrix) → matrix_at bytes ≡ o → ((m : Matrix) → IsPlainText bytes m → ⊥) → matrix_at bytes ≡ None
-none_read bytes None e never = e
-none_read bytes (Some m) e never = absurd (never m (matrix_takes bytes m e))
-
-pub not_plain_answer : (s : Split) (files : Files) → HoldsNoPlain files s.input → split_answer s files ≡ refused files (about s.input not_plain) status.Refused
-not_plain_answer s files (bytes, held, never) = ap (file_answer s files) held ∙ ap (matrix_answer s files) (none_read bytes (matrix_at bytes) refl never)
+pub bad_answer : (s : Split) (files : Files) (e : MmErr) → HoldsFault files s.input e → split_answer s files ≡ refused files (at_line s.input e.line (matrix_fault_text (fault_of e.what))) status.Refused
+bad_answer s files e (bytes, held, fault) = ap (file_answer s files) held ∙ ap (matrix_answer s files) ((reading width32).finds bytes (refusal_of e) fault)
 
 pub missing_answer : (s : Split) (files : Files) → get files s.input ≡ None → split_answer s files ≡ refused files (about s.input missing) status.Store
 missing_answer s files none = ap (file_answer s files) none
 
-chosen : (b : Bool) (x y : Answer) → b ≡ true → cond b x y ≡ x
+pub chosen : (b : Bool) (x y : Answer) → b ≡ true → cond b x y ≡ x
 chosen true x y e = refl
 chosen false x y e = absurd cc
 
-passed_over : (b : Bool) (x y : Answer) → (b ≡ true → ⊥) → cond b x y ≡ y
+pub passed_over : (b : Bool) (x y : Answer) → (b ≡ true → ⊥) → cond b x y ≡ y
 passed_over true x y e = absurd (e refl)
 passed_over false x y e = refl
 
@@ -58,8 +65,8 @@ load_answered Missing s old new none same why =
     let is = missing_answer s old.files none in
     inr (why, ap (λ (a : Answer). a.status) is, same ∙ sym (ap (λ (a : Answer). a.files) is))
 load_answered Failed s old new free same why = inl why
-load_answered (Mm e) s old new (fault, never) same why =
-    let is = not_plain_answer s old.files never in
+load_answered (Mm e) s old new bad same why =
+    let is = bad_answer s old.files e bad in
     (ap (λ (a : Answer). a.status) is, same ∙ sym (ap (λ (a : Answer). a.files) is))
 load_answered NoMemory s old new free same why = same
 
@@ -75,14 +82,14 @@ load_opened Failed a old new same = inl same
 load_opened (Mm e) a old new same = same
 load_opened NoMemory a old new same = same
 
-pub load_told : (e : LoadErr) (s : Split) (old new : Outside) (before after : Poured) → Refuses e old.files s.input → Because e old new → Gains before after (load_line e s.input) → IsTold (load_status e) (split_answer s old.files) (Some s) old new before after
+pub load_told : (e : LoadErr) (s : Split) (old new : Outside) (before after : Poured) → Refuses e old.files s.input → Because e old new → Gains before after (load_line e s.input) → IsTold (load_status e) (split_answer s old.files) (IsSplitFile s) old new before after
 load_told Missing s old new before after none why line =
     let P : List ℕ → Type 0 = Gains before after in
     inl (why, subst P (sym (ap (λ (a : Answer). a.error) (missing_answer s old.files none))) line)
 load_told Failed s old new before after free why line = inr (why, record { name = s.input; file = inl refl; line = line })
-load_told (Mm e) s old new before after (fault, never) why line =
+load_told (Mm e) s old new before after bad why line =
     let P : List ℕ → Type 0 = Gains before after in
-    subst P (sym (ap (λ (a : Answer). a.error) (not_plain_answer s old.files never))) line
+    subst P (sym (ap (λ (a : Answer). a.error) (bad_answer s old.files e bad))) line
 load_told NoMemory s old new before after free why line = line
 
 -- ---- what a split does whose matrix was read
@@ -93,7 +100,7 @@ large_answered s w old new held lt same =
     let is = held_answer s old.files w held ∙ large_answer s old.files (matrix_of w) lt in
     (ap (λ (a : Answer). a.status) is, same ∙ sym (ap (λ (a : Answer). a.files) is))
 
-pub large_told : (s : Split) (w : Whole) (words : ℕ) (old new : Outside) (before after : Poured) → HoldsMatrix old.files s.input w → words ≡ job_words s w.rows w.columns → 2 ^ 26 < words → Gains before after (too_many_words words) → IsTold status.Refused (split_answer s old.files) (Some s) old new before after
+pub large_told : (s : Split) (w : Whole) (words : ℕ) (old new : Outside) (before after : Poured) → HoldsMatrix old.files s.input w → words ≡ job_words s w.rows w.columns → 2 ^ 26 < words → Gains before after (too_many_words words) → IsTold status.Refused (split_answer s old.files) (IsSplitFile s) old new before after
 large_told s w words old new before after held count lt line =
     let P : List ℕ → Type 0 = Gains before after in
     let is = held_answer s old.files w held ∙ large_answer s old.files (matrix_of w) (omega (arith, lt, count)) in
@@ -117,38 +124,5 @@ fails_later old mid new same failed =
 pub counts_later : (old mid new : Outside) → SameCounts old mid → SameCounts mid new → SameCounts old new
 counts_later old mid new first then = record { faults = then.faults ∙ first.faults; misses = then.misses ∙ first.misses }
 
-pub late_fault : (s : Split) (w : Whole) (old new : Outside) → HasFailed old new → (IsTrue old.told → HoldsMatrix old.files s.input w) → job_words s w.rows w.columns ≤ 2 ^ 26 → FailedAtPiece (split_answer s old.files) old new
+pub late_fault : (s : Split) (w : Whole) (old new : Outside) → HasFailed old new → (IsTrue old.told → HoldsMatrix old.files s.input w) → job_words s w.rows w.columns ≤ 2 ^ 26 → FailedAtSave (split_answer s old.files) old new
 late_fault s w old new failed held le = record { failed = failed; late = λ told. ap (λ (a : Answer). a.status) (done_is s w old.files (held told) le) }
-
--- ---- the words
-
-answer_is : (words : List (List ℕ)) (files : Files) (o : Option Split) → o ≡ asked words → answer words files ≡ command_answer files o
-unfolding answer
-answer_is words files o e = ap (command_answer files) (sym e)
-
--- words that ask for a split
-pub some_answered : (words : List (List ℕ)) (s : Split) (status : Status) (old new : Outside) → Some s ≡ asked words → IsAnswered status (split_answer s old.files) old new → IsAnswered status (answer words old.files) old new
-some_answered words s status old new e h = let P : Answer → Type 0 = λ a. IsAnswered status a old new in subst P (sym (answer_is words old.files (Some s) e)) h
-
-pub some_opened : (words : List (List ℕ)) (s : Split) (status : Status) (old new : Outside) → Some s ≡ asked words → IsOpened status (split_answer s old.files) old new → IsOpened status (answer words old.files) old new
-some_opened words s status old new e h = let P : Answer → Type 0 = λ a. IsOpened status a old new in subst P (sym (answer_is words old.files (Some s) e)) h
-
-pub some_told : (words : List (List ℕ)) (s : Split) (status : Status) (old new : Outside) (before after : Poured) → Some s ≡ asked words → IsTold status (split_answer s old.files) (Some s) old new before after → IsTold status (answer words old.files) (asked words) old new before after
-some_told words s status old new before after e h =
-    let P : Answer → Type 0 = λ a. IsTold status a (Some s) old new before after in
-    let Q : Option Split → Type 0 = λ o. IsTold status (answer words old.files) o old new before after in
-    subst Q e (subst P (sym (answer_is words old.files (Some s) e)) h)
-
--- words that ask for nothing
-pub none_answered : (words : List (List ℕ)) (old : Outside) → None ≡ asked words → IsAnswered status.Words (answer words old.files) old old
-none_answered words old e =
-    let is = answer_is words old.files None e in
-    (ap (λ (a : Answer). a.status) is, sym (ap (λ (a : Answer). a.files) is))
-
-pub none_told : (words : List (List ℕ)) (o : Option Split) (old new : Outside) (before after : Poured) → None ≡ asked words → Gains before after usage → IsTold status.Words (answer words old.files) o old new before after
-none_told words o old new before after e line =
-    let P : List ℕ → Type 0 = Gains before after in
-    subst P (sym (ap (λ (a : Answer). a.error) (answer_is words old.files None e))) line
-
-pub some_is_none : (words : List (List ℕ)) (s : Split) → Some s ≡ asked words → asked words ≡ None → ⊥
-some_is_none words s e f = let both : Some s ≡ None = e ∙ f in cc

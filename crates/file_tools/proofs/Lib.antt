@@ -1,10 +1,9 @@
-pub mod PieceLemmas
-pub mod JobLemmas
-pub mod WritingLemmas
 pub mod SayingLemmas
+pub mod TurnLaws
+pub mod PieceLists
 pub mod ListLemmas
 pub mod WordCounts
 pub mod SavingLemmas
 pub mod AnswerLaws
-pub mod SpreadLaws
-pub mod AskedLaws
+pub mod JoinLaws
+pub mod WordLaws

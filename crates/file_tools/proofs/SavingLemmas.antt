@@ -5,10 +5,11 @@ use Rattle.std.specs.FinMap.{insert}
 use Rattle.store_io.specs.Outside.{Files, IsEither}
 use Rattle.store_io.specs.declared.store.StoreErr.{StoreErr}
 use Rattle.text_io.specs.Saving.{Saves, HoldsFront}
-use Rattle.mm_text.specs.Matrix.{Matrix}
+use Rattle.mm_grammar.specs.Matrix.{Matrix}
 use Rattle.file_tools.specs.Asked.{Split}
-use Rattle.file_tools.specs.Piece.{Head, piece_text}
-use Rattle.file_tools.specs.Answer.{saved, name_of, text_of}
+use Rattle.piece_grammar.specs.Head.{Head}
+use Rattle.piece_grammar.specs.PlainPiece.{piece_text}
+use Rattle.file_tools.specs.SplitAnswer.{saved, name_of, text_of}
 
 -- the same file under other words for its name and text
 pub saves_along : {X : Type 0} (result : Result X StoreErr) (before after : Files) (n k : List ℕ) (g h : Head) (l m : Matrix) → n ≡ k → g ≡ h → l ≡ m → Saves result before after n (piece_text g l) → Saves result before after k (piece_text h m)

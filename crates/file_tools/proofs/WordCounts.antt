@@ -2,7 +2,7 @@
 use Rattle.std.proofs.Common.{◌≡◌, ℕ, suc, ◌+◌, ◌*◌, ◌^◌, ◌≤◌, ap, refl, ◌∙◌, arith}
 use Rattle.std.proofs.Math.Nat.{mul-le-mul}
 use Rattle.file_tools.specs.Asked.{Split}
-use Rattle.file_tools.specs.Answer.{words_of, words_before}
+use Rattle.file_tools.specs.SplitAnswer.{words_of, words_before}
 
 pub no_words : (s : Split) (rows columns : ℕ) → words_before s rows columns 0 ≡ 0
 unfolding words_before

@@ -1,10 +1,9 @@
 -- What a call of the tool does, by the status that it answers.
-use Rattle.std.specs.Prelude.{◌≡◌, ℕ, ◌*◌, ◌<◌, IsTrue, List, ◌++◌, Option, Some, None}
+use Rattle.std.specs.Prelude.{◌≡◌, ℕ, IsTrue, List, ◌++◌}
 use Rattle.store_io.specs.Outside.{Outside, Poured, SameCounts, HasFailed, HasMissed, Rose, IsEither}
-use Rattle.file_tools.specs.Asked.{Split}
 use Rattle.file_tools.specs.Texts.{about, store_fault, out_of_memory}
 use Rattle.file_tools.specs.Saying.{SaysFront}
-use Rattle.file_tools.specs.Answer.{Answer, name_of}
+use Rattle.file_tools.specs.Answer.{Answer}
 use Rattle.file_tools.specs.declared.status.Status.{Status}
 use Rattle.file_tools.specs.declared.status.Status.TheVariants.{Done, Refused, Words, Store, NoMemory, Sink}
 
@@ -27,17 +26,17 @@ IsCounted Store old new = IsEither (HasFailed old new) (HasMissed old new)
 IsCounted NoMemory old new = SameCounts old new
 IsCounted Sink old new = ⊥
 
--- the store failed at a piece, so the answer has no other fault
-pub record FailedAtPiece (a : Answer) (old new : Outside) : Type 0 where
+-- the store failed at a file that is saved, so the answer has no other fault
+pub record FailedAtSave (a : Answer) (old new : Outside) : Type 0 where
   pub failed : HasFailed old new
   pub late : IsTrue old.told → a.status ≡ Done
 
--- No file was opened for writing, but where all was done or the store failed at a piece.
+-- No file was opened for writing, but where all was done or the store failed at a file that is saved.
 abbrev pub IsOpened : Status → Answer → Outside → Outside → Type 0
 IsOpened Done a old new = Unit {0}
 IsOpened Refused a old new = new.opens ≡ old.opens
 IsOpened Words a old new = new.opens ≡ old.opens
-IsOpened Store a old new = IsEither (new.opens ≡ old.opens) (FailedAtPiece a old new)
+IsOpened Store a old new = IsEither (new.opens ≡ old.opens) (FailedAtSave a old new)
 IsOpened NoMemory a old new = new.opens ≡ old.opens
 IsOpened Sink a old new = ⊥
 
@@ -45,26 +44,17 @@ IsOpened Sink a old new = ⊥
 abbrev pub Gains : Poured → Poured → List ℕ → Type 0
 Gains old new line = IsEither (new.bytes ≡ old.bytes ++ line) (SaysFront old new line × Rose old.faults new.faults)
 
--- a file that a split needs or saves
-abbrev pub IsFileOf : Split → List ℕ → Type 0
-IsFileOf s name = IsEither (name ≡ s.input) ((k : ℕ) × (k < s.nprow * s.npcol) × (name ≡ name_of s k))
-
--- the line of a store's fault at such a file
-pub record TellsFault (s : Split) (old new : Poured) : Type 0 where
+-- the line of a store's fault at one of these files
+pub record TellsFault (IsFile : List ℕ → Type 0) (old new : Poured) : Type 0 where
   pub name : List ℕ
-  pub file : IsFileOf s name
+  pub file : IsFile name
   pub line : Gains old new (about name store_fault)
 
--- the same of what the words ask for
-abbrev pub TellsFaultOf : Option Split → (old new : Poured) → Type 0
-TellsFaultOf (Some s) old new = TellsFault s old new
-TellsFaultOf None old new = ⊥
-
--- what is written to an error stream: the answer's line, or that on a store's fault or on want of memory
-abbrev pub IsTold : Status → Answer → Option Split → (old new : Outside) → (before after : Poured) → Type 0
-IsTold Done a o old new before after = after.bytes ≡ before.bytes
-IsTold Refused a o old new before after = Gains before after a.error
-IsTold Words a o old new before after = Gains before after a.error
-IsTold Store a o old new before after = IsEither (HasMissed old new × Gains before after a.error) (HasFailed old new × TellsFaultOf o before after)
-IsTold NoMemory a o old new before after = Gains before after out_of_memory
-IsTold Sink a o old new before after = ⊥
+-- What is written to an error stream: the answer's line, or that on a store's fault at one of these files, or on want of memory.
+abbrev pub IsTold : Status → Answer → (IsFile : List ℕ → Type 0) → (old new : Outside) → (before after : Poured) → Type 0
+IsTold Done a IsFile old new before after = after.bytes ≡ before.bytes
+IsTold Refused a IsFile old new before after = Gains before after a.error
+IsTold Words a IsFile old new before after = Gains before after a.error
+IsTold Store a IsFile old new before after = IsEither (HasMissed old new × Gains before after a.error) (HasFailed old new × TellsFault IsFile before after)
+IsTold NoMemory a IsFile old new before after = Gains before after out_of_memory
+IsTold Sink a IsFile old new before after = ⊥

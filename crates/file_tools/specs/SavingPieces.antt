@@ -2,9 +2,9 @@
 use Rattle.std.specs.Prelude.{◌≡◌, ℕ, ◌*◌, Result, Ok, Err}
 use Rattle.store_io.specs.Outside.{Outside, Files, SameCounts, HasFailed, IsEither}
 use Rattle.text_io.specs.Saving.{HoldsFront}
-use Rattle.mm_text.specs.Matrix.{Matrix}
+use Rattle.mm_grammar.specs.Matrix.{Matrix}
 use Rattle.file_tools.specs.Asked.{Split}
-use Rattle.file_tools.specs.Answer.{saved, name_of, text_of}
+use Rattle.file_tools.specs.SplitAnswer.{saved, name_of, text_of}
 
 -- All pieces are saved; or saving failed at piece k: those before it are saved, it has its old contents or holds a front of
 -- its text, and no later one was begun.

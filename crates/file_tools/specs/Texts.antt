@@ -5,17 +5,14 @@ use Rattle.line_text.specs.Lines.{ended}
 
 -- the usage of the commands that are built
 unfoldable pub usage : List ℕ
-usage = ended (codes "usage: gridtool split IN OUT P Q MB NB")
+usage = ended (codes "usage: gridtool split IN OUT P Q MB NB") ++ ended (codes "       gridtool join PREFIX OUT")
 
 unfoldable pub tool_name : List ℕ
 tool_name = codes "gridtool: "
 
--- what stands behind the name of a file that isn't held, isn't plain, or that the store failed at
+-- what stands behind the name of a file that isn't held, or that the store failed at
 unfoldable pub missing : List ℕ
 missing = ended (codes ": missing")
-
-unfoldable pub not_plain : List ℕ
-not_plain = ended (codes ": line 1: not a plain file")
 
 unfoldable pub store_fault : List ℕ
 store_fault = ended (codes ": store fault")

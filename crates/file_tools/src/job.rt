@@ -1,59 +1,13 @@
 //! What a split takes before the first piece is written: names and places, all of its memory.
 ghost use Rattle.std.specs.Prelude.{◌≡◌, ◌<◌, ◌≤◌, ◌+◌, ◌*◌, ◌^◌, IfOk};
 ghost use Rattle.index_tools.specs.Spread.{spread};
-ghost use Rattle.file_tools.specs.Spreading.{owned};
-ghost use Rattle.file_tools.specs.Lists.{lists_of, owned_by, texts_of, names_by};
+ghost use Rattle.spread_cells.specs.Owned.{lists_of, owned_by};
+ghost use Rattle.file_tools.specs.Lists.{texts_of, names_by};
 
 use crate::split_words::Split;
-use index_tools::{indxl2g, numroc};
+use piece_file::piece_name;
+use spread_cells::owned_lists;
 use std::alloc::{AllocError, Global};
-
-// The indices below `n` that a process owns, in increasing order; the first block lies on process 0.
-#[tactic(auto, using(index_tools::proofs::HomeLemmas::index_below, crate::proofs::JobLemmas::owned_more, crate::proofs::JobLemmas::owned_all))]
-fn owned_indices(
-    alloc: Global,
-    n: u32,
-    block: u32,
-    process: u32,
-    processes: u32,
-) -> Result<Vec<u32>, AllocError>
-    requires size { n ≤ 2 ^ 24 }
-    requires block { 1 ≤ block }
-    requires block_fits { block ≤ 2 ^ 24 }
-    requires processes { processes ≤ 64 }
-    requires process { process < processes }
-    ensures { IfOk result (λ v. v.items ≡ owned (spread block 0 processes) process n) }
-{
-    let count = numroc(n, block, process, 0, processes);
-    let mut indices = Vec::with_capacity(alloc, count as usize)?;
-    for place in 0..count {
-        let index = indxl2g(place + 1, block, process, 0, processes) - 1;
-        indices.push(index as u32)?;
-    }
-    Ok(indices)
-}
-
-// The lists of the indices below `n` that the processes own, process by process.
-#[tactic(auto, using(crate::proofs::ListLemmas::lists_more))]
-fn owned_lists(
-    alloc: Global,
-    n: u32,
-    block: u32,
-    processes: u32,
-) -> Result<Vec<Vec<u32>>, AllocError>
-    requires size { n ≤ 2 ^ 24 }
-    requires block { 1 ≤ block }
-    requires block_fits { block ≤ 2 ^ 24 }
-    requires processes { processes ≤ 64 }
-    ensures { IfOk result (λ v. lists_of v.items ≡ owned_by (spread block 0 processes) n processes) }
-{
-    let mut lists = Vec::new(alloc);
-    for process in 0..processes {
-        let indices = owned_indices(alloc, n, block, process, processes)?;
-        lists.push(indices)?;
-    }
-    Ok(lists)
-}
 
 // The names of the pieces, by rows of the grid.
 #[tactic(auto, using(crate::proofs::ListLemmas::names_more))]
@@ -70,7 +24,7 @@ fn piece_names(
     for k in 0..pieces {
         let prow = k / npcol;
         let pcol = k % npcol;
-        names.push(format!(in alloc; "{prefix}.{prow}.{pcol}")?)?;
+        names.push(piece_name(alloc, prefix, prow, pcol)?)?;
     }
     Ok(names)
 }
@@ -100,8 +54,8 @@ pub(crate) fn prepare(
         (spread split.now.nb 0 split.now.npcol) columns split.now.npcol) }
 {
     let names = piece_names(alloc, split.prefix, split.nprow * split.npcol, split.npcol)?;
-    let rows = owned_lists(alloc, rows, split.mb, split.nprow)?;
-    let columns = owned_lists(alloc, columns, split.nb, split.npcol)?;
+    let rows = owned_lists(alloc, rows, split.mb, 0, split.nprow)?;
+    let columns = owned_lists(alloc, columns, split.nb, 0, split.npcol)?;
     Ok(Pieces {
         names,
         rows,

@@ -2,17 +2,16 @@
 #![tactic(auto)]
 
 mod complaint;
-mod head;
 mod job;
-mod piece;
-mod piece_cells;
-mod piece_writing;
+mod join;
+mod join_words;
 mod say;
+mod say_fault;
 mod split;
 mod split_words;
 mod status;
+mod task;
 mod tool;
-mod words;
 
 pub use status::Status;
 pub use tool::plain_tool;

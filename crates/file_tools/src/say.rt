@@ -11,7 +11,7 @@ use store_io::{Sink, SinkErr, sink_all};
 
 // Appends a piece of a line.
 #[tactic(auto, using(crate::proofs::SayingLemmas::says_front))]
-fn say<E: Sink>(err: &mut E, text: &[u8]) -> Result<(), SinkErr>
+pub(crate) fn say<E: Sink>(err: &mut E, text: &[u8]) -> Result<(), SinkErr>
     ensures says { IsTrue (E.state err.old).told →
         Says result (E.state err.old) (E.state err.new) text.now }
     ensures tells { Tells result (E.state err.old) (E.state err.new) }
@@ -24,7 +24,7 @@ fn say<E: Sink>(err: &mut E, text: &[u8]) -> Result<(), SinkErr>
 
 // A name and a text behind it.
 #[tactic(auto, using(crate::proofs::SayingLemmas::says_then, crate::proofs::SayingLemmas::front_then, crate::proofs::SayingLemmas::front_more))]
-fn say_both<E: Sink>(err: &mut E, first: &[u8], second: &[u8]) -> Result<(), SinkErr>
+pub(crate) fn say_both<E: Sink>(err: &mut E, first: &[u8], second: &[u8]) -> Result<(), SinkErr>
     ensures says { IsTrue (E.state err.old).told →
         Says result (E.state err.old) (E.state err.new) (first.now ++ second.now) }
     ensures tells { Tells result (E.state err.old) (E.state err.new) }
@@ -36,7 +36,7 @@ fn say_both<E: Sink>(err: &mut E, first: &[u8], second: &[u8]) -> Result<(), Sin
 }
 
 #[tactic(auto, unfolding(crate::specs::Texts::tool_name))]
-fn say_tool<E: Sink>(err: &mut E) -> Result<(), SinkErr>
+pub(crate) fn say_tool<E: Sink>(err: &mut E) -> Result<(), SinkErr>
     ensures says { IsTrue (E.state err.old).told →
         Says result (E.state err.old) (E.state err.new) tool_name }
     ensures tells { Tells result (E.state err.old) (E.state err.new) }
@@ -89,7 +89,10 @@ fn say_usage<E: Sink>(err: &mut E) -> Result<(), SinkErr>
         Says result (E.state err.old) (E.state err.new) usage }
     ensures tells { Tells result (E.state err.old) (E.state err.new) }
 {
-    say(err, b"usage: gridtool split IN OUT P Q MB NB\n")
+    say(
+        err,
+        b"usage: gridtool split IN OUT P Q MB NB\n       gridtool join PREFIX OUT\n",
+    )
 }
 
 /// The line on want of memory.

@@ -1,27 +1,28 @@
 //! The command `split`.
-ghost use Rattle.std.specs.Prelude.{◌≡◌, ◌<◌, ◌≤◌, ◌*◌, ◌^◌, [], length, slice_index_or, Some, IsTrue, IfErr};
-ghost use Rattle.file_tools.specs.Answer.{words_of, job_words, head_of, cells_of, name_of, text_of, split_answer};
+ghost use Rattle.std.specs.Prelude.{◌≡◌, ◌<◌, ◌≤◌, ◌*◌, ◌^◌, [], length, slice_index_or, IsTrue, IfErr};
+ghost use Rattle.file_tools.specs.SplitAnswer.{words_of, job_words, head_of, cells_of, name_of, text_of, split_answer, IsSplitFile};
 ghost use Rattle.file_tools.specs.Refusals.{load_status, load_line};
 ghost use Rattle.file_tools.specs.Outcome.{Gains, IsAnswered, IsCounted, IsOpened, IsTold};
 ghost use Rattle.file_tools.specs.SavingPieces.{SavesPieces, SavesAllCause};
 ghost use Rattle.text_io.specs.Saving.{Saves, SavesCause, OpensOnce};
-ghost use Rattle.file_tools.specs.PieceView.{piece_matrix};
+ghost use Rattle.spread_cells.specs.PieceView.{piece_matrix};
 ghost use Rattle.mm_text.specs.Loading.{matrix_of};
-ghost use Rattle.file_tools.specs.HeadView.{head_view};
+ghost use Rattle.piece_file.specs.HeadView.{head_view};
 ghost use Rattle.file_tools.specs.Seen.{seen};
-ghost use Rattle.file_tools.specs.Lists.{lists_of, owned_by, texts_of, names_by};
+ghost use Rattle.spread_cells.specs.Owned.{lists_of, owned_by};
+ghost use Rattle.file_tools.specs.Lists.{texts_of, names_by};
 ghost use Rattle.index_tools.specs.Spread.{spread};
 
 use crate::complaint::Complaint;
-use crate::head::Head;
 use crate::job::{Pieces, prepare};
-use crate::piece::Piece;
-use crate::piece_writing::write_piece;
 use crate::say::{tell_about, tell_out_of_memory, tell_too_many};
+use crate::say_fault::tell_matrix;
 use crate::split_words::Split;
 use crate::status::Status;
 use index_tools::numroc;
 use mm_text::{LoadErr, Whole, read_matrix};
+use piece_file::{Head, write_cells};
+use spread_cells::PieceCells;
 use std::alloc::Global;
 use store_io::{Sink, Store, StoreErr};
 
@@ -88,8 +89,8 @@ fn list_at(lists: &[Vec<u32>], i: u32) -> &[u32]
 }
 
 // The local array of piece `k`.
-#[tactic(auto, using(crate::proofs::ListLemmas::list_fits))]
-fn piece_at<'a>(split: &Split<'_>, whole: &'a Whole, pieces: &'a Pieces, k: u32) -> Piece<'a>
+#[tactic(auto, using(spread_cells::proofs::OwnedLists::list_fits))]
+fn piece_at<'a>(split: &Split<'_>, whole: &'a Whole, pieces: &'a Pieces, k: u32) -> PieceCells<'a>
     requires rows { lists_of pieces.now.rows.items ≡ owned_by (spread split.now.mb 0 split.now.nprow)
         whole.now.rows split.now.nprow }
     requires columns { lists_of pieces.now.columns.items ≡ owned_by
@@ -99,7 +100,7 @@ fn piece_at<'a>(split: &Split<'_>, whole: &'a Whole, pieces: &'a Pieces, k: u32)
 {
     let rows = list_at(&pieces.rows, k / split.npcol);
     let columns = list_at(&pieces.columns, k % split.npcol);
-    Piece {
+    PieceCells {
         whole,
         rows,
         columns,
@@ -129,7 +130,7 @@ fn save_piece<S: Store>(
 {
     let piece = piece_at(split, whole, pieces, k);
     let head = head(split, whole.rows, whole.columns, k);
-    write_piece(store, name_at(&pieces.names, k), &head, &piece)
+    write_cells(store, name_at(&pieces.names, k), &head, &piece)
 }
 
 // Writes the pieces by rows of the grid; the number of the piece at which the store failed.
@@ -185,7 +186,7 @@ pub(crate) fn run_split<S: Store, E: Sink>(
     ensures opened { IsOpened result (split_answer (seen split.now) (S.state store.old).files)
         (S.state store.old) (S.state store.new) }
     ensures told { IsTrue (S.state store.old).told → IsTrue (E.state err.old).told →
-        IsTold result (split_answer (seen split.now) (S.state store.old).files) (Some (seen split.now))
+        IsTold result (split_answer (seen split.now) (S.state store.old).files) (IsSplitFile (seen split.now))
         (S.state store.old) (S.state store.new) (E.state err.old) (E.state err.new) }
 {
     let whole = match read_matrix(alloc, store, split.input) {
@@ -225,8 +226,8 @@ fn refuse<E: Sink>(err: &mut E, name: &str, error: LoadErr) -> Status
             tell_about(err, name, Complaint::StoreFault);
             Status::Store
         }
-        LoadErr::Mm(_) => {
-            tell_about(err, name, Complaint::NotPlain);
+        LoadErr::Mm(error) => {
+            tell_matrix(err, name, error);
             Status::Refused
         }
         LoadErr::NoMemory => {

@@ -30,3 +30,7 @@ words line = not_empty (parts line)
 unfoldable pub IsWord : List ℕ → Type 0
 IsWord [] = ⊥
 IsWord (b ∷ bs) = AllByRecursion (λ c. is_blank c ≡ false) (b ∷ bs)
+
+-- no blank among these bytes
+abbrev pub HasNoBlank : List ℕ → Type 0
+HasNoBlank bytes = AllByRecursion (λ c. is_blank c ≡ false) bytes

@@ -1,2 +1,10 @@
-//! Lines, words and decimal numbers of texts: the definitions that every file format of the suite is said in, with their laws.
+//! The lines, words and decimal numbers of texts: definitions and laws of them, and the words and numbers of a line that is at hand.
 #![tactic(auto)]
+
+mod integers;
+mod numbers;
+mod words;
+
+pub use integers::{Integer, read_integer};
+pub use numbers::{is_digits, number_up_to, unsigned_up_to};
+pub use words::{first_two_words, is_blank_byte, next_word, only_word};

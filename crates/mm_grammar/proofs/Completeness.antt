@@ -19,25 +19,25 @@ use Rattle.mm_grammar.proofs.Steps.{size_not_blank, value_not_blank}
 use Rattle.mm_grammar.proofs.Table.{line_fails, end_fails, refused_by}
 
 -- each kind of line at its place
-banner_step : (width : Width) (kind : Symmetry) (line : Line) → IsBannerLine kind line → step width AtBanner line ≡ Ok (AtSize kind)
+pub banner_step : (width : Width) (kind : Symmetry) (line : Line) → IsBannerLine kind line → step width AtBanner line ≡ Ok (AtSize kind)
 unfolding step
 banner_step width kind line is = rw (is.fits, is.names) refl
 
-between_step : (width : Width) (kind : Symmetry) (line : Line) → IsBetweenLine line → step width (AtSize kind) line ≡ Ok (AtSize kind)
+pub between_step : (width : Width) (kind : Symmetry) (line : Line) → IsBetweenLine line → step width (AtSize kind) line ≡ Ok (AtSize kind)
 unfolding step
 between_step width kind line is = rw (is.fits, is.says_nothing) refl
 
-size_step : (width : Width) (header : Header) (line : Line) → IsSizeLine width header line → step width (AtSize header.symmetry) line ≡ Ok (AtValues header [])
+pub size_step : (width : Width) (header : Header) (line : Line) → IsSizeLine width header line → step width (AtSize header.symmetry) line ≡ Ok (AtValues header [])
 unfolding step
 size_step width header line is =
     let words_there : is_blank_line line.text ≡ false = size_not_blank width header.symmetry (words line.text) header is.gives in
     rw (is.no_comment, is.fits, words_there, is.gives) refl
 
-blank_step : (width : Width) (header : Header) (stored : List ℤ) (line : Line) → IsBlankLine line → step width (AtValues header stored) line ≡ Ok (AtValues header stored)
+pub blank_step : (width : Width) (header : Header) (stored : List ℤ) (line : Line) → IsBlankLine line → step width (AtValues header stored) line ≡ Ok (AtValues header stored)
 unfolding step
 blank_step width header stored line is = rw (is.fits, is.blank) refl
 
-value_step : (width : Width) (header : Header) (stored : List ℤ) (v : ℤ) (line : Line) → IsValueLine width header v line → length stored < wanted header → step width (AtValues header stored) line ≡ Ok (AtValues header (stored ++ v ∷ []))
+pub value_step : (width : Width) (header : Header) (stored : List ℤ) (v : ℤ) (line : Line) → IsValueLine width header v line → length stored < wanted header → step width (AtValues header stored) line ≡ Ok (AtValues header (stored ++ v ∷ []))
 unfolding step
 value_step width header stored v line is less =
     let words_there : is_blank_line line.text ≡ false = value_not_blank width header.symmetry (words line.text) v is.gives in

@@ -39,7 +39,7 @@ number_passed : (width : Width) (kind : Symmetry) (o : Option ℤ) (v : ℤ) →
 number_passed width kind (Some z) v e = passed (may_store width kind) z v Range _ refl e
 number_passed width kind None v e = absurd cc
 
-value_passed : (width : Width) (kind : Symmetry) (ws : List (List ℕ)) (v : ℤ) → value_words width kind ws ≡ Ok v → may_store width kind v ≡ true
+pub value_passed : (width : Width) (kind : Symmetry) (ws : List (List ℕ)) (v : ℤ) → value_words width kind ws ≡ Ok v → may_store width kind v ≡ true
 unfolding value_words
 value_passed width kind [] v e = absurd cc
 value_passed width kind (w ∷ []) v e = number_passed width kind (signed_number w) v e

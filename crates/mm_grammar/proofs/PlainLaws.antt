@@ -34,7 +34,7 @@ mag_in_range width (negsuc n) is = ltb-true _ _ is
 value_short : (z : ℤ) → mag z < 2 ^ 63 → length (signed_decimal z) ≤ 20
 value_short z fits = length_signed_le 19 z (omega arith) fits
 
-size_short : (m n : ℕ) → m ≤ 2 ^ 24 → n ≤ 2 ^ 24 → length (size_line m n) ≤ 17
+pub size_short : (m n : ℕ) → m ≤ 2 ^ 24 → n ≤ 2 ^ 24 → length (size_line m n) ≤ 17
 size_short m n a b =
     let p : length (decimal m) ≤ 8 = length-decimal-le 8 m (omega arith) (omega arith) (omega arith) in
     let q : length (decimal n) ≤ 8 = length-decimal-le 8 n (omega arith) (omega arith) (omega arith) in
@@ -58,7 +58,7 @@ value_of : (width : Width) (z : ℤ) → mag z < 2 ^ 63 → is_in_range width z 
 unfolding value_words
 value_of width z fits is = rw (words_one (signed_decimal z) (signed_word z fits), signed_number_decimal z fits, is) refl
 
-text_length : (line : List ℕ) (lines : List (List ℕ)) → length (text_of_lines (line ∷ lines)) ≡ length (ended line) + length (text_of_lines lines)
+pub text_length : (line : List ℕ) (lines : List (List ℕ)) → length (text_of_lines (line ∷ lines)) ≡ length (ended line) + length (text_of_lines lines)
 text_length line lines = length-append (ended line) (text_of_lines lines)
 
 values_hold : (width : Width) (m : Matrix) (at : ℕ) (vs : List ℤ) → width.bound ≤ 2 ^ 63 → AllByRecursion (λ v. is_in_range width v ≡ true) vs → at + length (text_of_lines (map signed_decimal vs)) ≤ 2 ^ 30
@@ -82,11 +82,11 @@ values_lines width (v ∷ vs) bound all =
     let less : mag v < width.bound = mag_in_range width v all.0 in
     (text_line (signed_decimal v) (signed_text v (omega arith)), values_lines width vs bound all.1)
 
-banner_text : list_all is_text_byte banner_line ≡ true
+pub banner_text : list_all is_text_byte banner_line ≡ true
 unfolding banner_line
 banner_text = refl
 
-banner_long : length banner_line ≡ 43
+pub banner_long : length banner_line ≡ 43
 unfolding banner_line
 banner_long = refl
 
@@ -142,7 +142,7 @@ plain_accepted width m bound is front =
     }
 
 -- how long the values' lines are, each of at most k + 1 bytes and its end
-values_short : (width : Width) (k : ℕ) (vs : List ℤ) → width.bound < 10 ^ k → width.bound ≤ 2 ^ 63 → AllByRecursion (λ v. is_in_range width v ≡ true) vs → length (text_of_lines (map signed_decimal vs)) ≤ length vs * (k + 2)
+pub values_short : (width : Width) (k : ℕ) (vs : List ℤ) → width.bound < 10 ^ k → width.bound ≤ 2 ^ 63 → AllByRecursion (λ v. is_in_range width v ≡ true) vs → length (text_of_lines (map signed_decimal vs)) ≤ length vs * (k + 2)
 values_short width k [] small bound all = omega arith
 values_short width k (v ∷ vs) small bound all =
     let less : mag v < width.bound = mag_in_range width v all.0 in

@@ -19,11 +19,11 @@ pub read_to_start : (width : Width) (bytes : List ℕ) → IsReadTo width bytes 
 read_to_start width bytes = record { taken = []; stand = refl; number = refl; whole = refl }
 
 -- the lines that are left, from a line with its end, and from one without
-run_left : (before : ℕ) (run rest : List ℕ) → HasNoEnd run → lines_behind before (whole_lines (run ++ 10 ∷ rest)) ≡ line_to run (before + length (ended run)) ∷ lines_behind (before + length (ended run)) (whole_lines rest)
+pub run_left : (before : ℕ) (run rest : List ℕ) → HasNoEnd run → lines_behind before (whole_lines (run ++ 10 ∷ rest)) ≡ line_to run (before + length (ended run)) ∷ lines_behind (before + length (ended run)) (whole_lines rest)
 unfolding lines_behind
 run_left before run rest is = rw (whole_run run rest is, without_end_run run is) refl
 
-last_left : (before b : ℕ) (bs : List ℕ) → HasNoEnd (b ∷ bs) → lines_behind before (whole_lines (b ∷ bs)) ≡ line_to (b ∷ bs) (before + length (b ∷ bs)) ∷ lines_behind (before + length (b ∷ bs)) (whole_lines [])
+pub last_left : (before b : ℕ) (bs : List ℕ) → HasNoEnd (b ∷ bs) → lines_behind before (whole_lines (b ∷ bs)) ≡ line_to (b ∷ bs) (before + length (b ∷ bs)) ∷ lines_behind (before + length (b ∷ bs)) (whole_lines [])
 unfolding lines_behind whole_lines
 last_left before b bs is = ap (lines_behind before) (whole_last b bs is) ∙ rw (without_end_last (b ∷ bs) is) refl
 

@@ -5,8 +5,10 @@ ghost use Rattle.std.specs.List.{flat_map};
 ghost use Rattle.text_io.specs.Writing.{Puts, Writes};
 ghost use Rattle.text_io.specs.Saving.{Pours, Saves, SavesCause, OpensOnce};
 ghost use Rattle.line_text.specs.Lines.{ended, text_of_lines};
-ghost use Rattle.mm_text.specs.PlainText.{banner_line, size_line, cell_lines, plain_text, ReadsBack};
-ghost use Rattle.mm_text.specs.Matrix.{IsMatrix};
+ghost use Rattle.mm_grammar.specs.PlainText.{banner_line, size_line, cell_lines, plain_text};
+ghost use Rattle.mm_grammar.specs.Width.{width32};
+ghost use Rattle.mm_text.specs.ReadingBack.{ReadsBack};
+ghost use Rattle.mm_grammar.specs.Matrix.{IsMatrix};
 
 use crate::cells::Cells;
 use itoa::Buffer;
@@ -16,7 +18,7 @@ use text_io::Pen;
 const BANNER: &[u8; 43] = b"%%MatrixMarket matrix array integer general";
 
 /// Puts the banner of a general integer array file, and the end of its line.
-#[tactic(auto, unfolding(crate::specs::PlainText::banner_line))]
+#[tactic(auto, unfolding(mm_grammar::specs::PlainText::banner_line))]
 pub fn put_banner<S: Store>(pen: &mut Pen, store: &mut S) -> Result<(), StoreErr>
     requires { IsTrue (S.state store.old).writing }
     ensures puts { IsTrue (S.state store.old).told →
@@ -134,7 +136,7 @@ pub fn put_cells<S: Store, C: Cells>(
 }
 
 // The whole text to the open output.
-#[tactic(auto, using(text_io::proofs::Putting::front_more, crate::proofs::WholeTexts::front_cells, crate::proofs::WholeTexts::pours_matrix, crate::proofs::WholeTexts::front_matrix), unfolding(crate::specs::PlainText::plain_text))]
+#[tactic(auto, using(text_io::proofs::Putting::front_more, crate::proofs::WholeTexts::front_cells, crate::proofs::WholeTexts::pours_matrix, crate::proofs::WholeTexts::front_matrix), unfolding(mm_grammar::specs::PlainText::plain_text))]
 fn put_matrix<S: Store, C: Cells>(store: &mut S, cells: &C) -> Result<(), StoreErr>
     requires { IsTrue (S.state store.old).writing }
     ensures pours { IsTrue (S.state store.old).told →
@@ -159,7 +161,7 @@ fn put_matrix<S: Store, C: Cells>(store: &mut S, cells: &C) -> Result<(), StoreE
 /// Writes the text of a matrix to a file, and closes it: the banner, the size line and the values by columns, one a line,
 /// in plain decimal. It takes no memory. `Failed` comes where the store failed; the file is then as opening it left it, or
 /// holds a front of the text.
-#[tactic(auto, using(text_io::proofs::Putting::saves_front, crate::proofs::Laws::reads_back))]
+#[tactic(auto, using(text_io::proofs::Putting::saves_front))]
 pub fn write_matrix<S: Store, C: Cells>(
     store: &mut S,
     name: &str,
@@ -171,7 +173,7 @@ pub fn write_matrix<S: Store, C: Cells>(
     ensures saves { IsTrue (S.state store.old).told →
         Saves result (S.state store.old).files (S.state store.new).files name.now
         (plain_text (C.matrix cells.now)) }
-    ensures back { IsMatrix (C.matrix cells.now) → ReadsBack (C.matrix cells.now) }
+    ensures back { IsMatrix width32 (C.matrix cells.now) → ReadsBack (C.matrix cells.now) }
     ensures opens { OpensOnce (S.state store.old) (S.state store.new) }
     ensures cause { SavesCause result (S.state store.old) (S.state store.new) }
 {

@@ -1,6 +1,8 @@
 //! The part of a matrix that one process holds.
 
-ghost use Rattle.std.specs.Prelude.{◌≡◌, ◌≢◌, ◌⊎◌, ◌<◌, ℕ, length, IfOk, IfSome, IfNone, MatchResult};
+ghost use Rattle.std.specs.Prelude.{◌≡◌, ◌≢◌, ◌⊎◌, ◌<◌, ◌≤◌, ◌*◌, ◌^◌, ℕ, length, FitsSigned, IfOk, IfSome, IfNone, MatchResult};
+ghost use Rattle.std.specs.List.{AllByRecursion};
+ghost use Rattle.std.specs.Int.{w32};
 ghost use Rattle.pack_words.specs.LocalCells.{IsLocalCells, zeros, word_at, with_word, column_of};
 ghost use Rattle.pack_words.specs.ArrayRefusal.{array_refusal};
 
@@ -50,6 +52,19 @@ impl LocalArray {
         }
         let words = vec![in alloc; 0; count as usize]?;
         Ok(LocalArray { lld, cols, words })
+    }
+
+    /// An array of `cols` columns of `lld` words, which are these words by columns. It takes no memory.
+    pub fn from_words(lld: u32, cols: u32, words: Vec<i32>) -> LocalArray
+        requires some_lead { 1 ≤ lld }
+        requires lead { lld ≤ 2 ^ 24 }
+        requires area { lld * cols ≤ 2 ^ 26 }
+        requires whole { length words.items ≡ lld * cols }
+        requires each { AllByRecursion (FitsSigned w32) words.items }
+        ensures made { result ≡ record { lld = lld; cols = cols; words = words.items } }
+        ensures array { IsLocalCells result }
+    {
+        LocalArray { lld, cols, words }
     }
 
     /// The leading dimension, which is the length of each column: 1 to 2^24.

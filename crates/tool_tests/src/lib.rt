@@ -1,9 +1,11 @@
-//! Tests of the stores, the texts and the tools.
+//! Tests of the words and the tools.
 #![tactic(auto)]
 
 #[cfg(test)]
-mod stores;
+mod joins;
 #[cfg(test)]
-mod texts;
+mod running;
 #[cfg(test)]
 mod tools;
+#[cfg(test)]
+mod words;

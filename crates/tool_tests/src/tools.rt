@@ -1,6 +1,6 @@
 //! The commands on files in memory.
-use file_tools::{Status, plain_tool};
-use std::alloc::{AllocError, Global};
+use crate::running::{holds, run};
+use file_tools::Status;
 use std::test::Fail;
 use store_io::{MemSink, MemStore};
 
@@ -11,34 +11,6 @@ const FIRST: &[u8; 84] =
 
 const SECOND: &[u8; 80] =
     b"%%MatrixMarket matrix array integer general\n%DESC 2 1 1 0 3 2 2 1 0 0 1\n1 2\n3\n6\n";
-
-fn words(alloc: Global, line: &str) -> Result<Vec<String>, AllocError> {
-    let mut words = Vec::new(alloc);
-    for word in line.split_whitespace() {
-        words.push(String::from_str(alloc, word)?)?;
-    }
-    Ok(words)
-}
-
-// Whether the store holds a file of these bytes.
-fn holds(store: &MemStore, name: &str, bytes: &[u8]) -> bool {
-    match store.file(name) {
-        Some(held) => held == bytes,
-        None => false,
-    }
-}
-
-// A run of the tool on the words of a line.
-fn run(
-    alloc: Global,
-    store: &mut MemStore,
-    err: &mut MemSink,
-    line: &str,
-) -> Result<Status, AllocError> {
-    let words = words(alloc, line)?;
-    let mut out = MemSink::new(alloc, 16)?;
-    Ok(plain_tool(alloc, &words, store, &mut out, err))
-}
 
 #[test]
 fn a_matrix_over_two_rows_of_processes(rt: HostRuntime) -> Result<(), Fail> {
@@ -93,12 +65,12 @@ fn a_matrix_without_rows(rt: HostRuntime) -> Result<(), Fail> {
 #[test]
 fn refusals(rt: HostRuntime) -> Result<(), Fail> {
     let alloc = rt.alloc();
-    let usage = "usage: gridtool split IN OUT P Q MB NB\n";
+    let usage = "usage: gridtool split IN OUT P Q MB NB\n       gridtool join PREFIX OUT\n";
     let cases = [
         (
             "split b.mtx x 1 1 2 2",
             1,
-            "gridtool: b.mtx: line 1: not a plain file\n",
+            "gridtool: b.mtx: line 4: bad value\n",
         ),
         (
             "split e.mtx x 64 1 1 1",
@@ -107,16 +79,10 @@ fn refusals(rt: HostRuntime) -> Result<(), Fail> {
         ),
         ("split nope x 1 1 1 1", 3, "gridtool: nope: missing\n"),
         ("split a.mtx x 8 9 1 1", 2, usage),
-        ("split a.mtx x 0 1 2 2", 2, usage),
-        ("split a.mtx x 1 65 2 2", 2, usage),
-        ("split a.mtx x 1 1 0 2", 2, usage),
-        ("split a.mtx x 1 1 2 16777217", 2, usage),
-        ("split a.mtx x 1 1 2 +2", 2, usage),
-        ("split a.mtx x 1 1 2 000000000000000000002", 2, usage),
-        ("split a.mtx -x 1 1 2 2", 2, usage),
-        ("split -- a.mtx x 1 1 2 2", 2, usage),
         ("split a.mtx x 1 1 2", 2, usage),
         ("Split a.mtx x 1 1 2 2", 2, usage),
+        ("split --help", 2, usage),
+        ("move x y 1 1 1 1", 2, usage),
         ("", 2, usage),
     ];
     for (line, code, text) in cases {
@@ -126,7 +92,7 @@ fn refusals(rt: HostRuntime) -> Result<(), Fail> {
         assert!(rt;
             store.put(
                 "b.mtx",
-                b"%%MatrixMarket matrix array integer general\n3 2\n+1\n2\n3\n4\n5\n6\n"
+                b"%%MatrixMarket matrix array integer general\n3 2\n1\n2.5\n3\n4\n5\n6\n"
             )
         );
         assert!(rt;

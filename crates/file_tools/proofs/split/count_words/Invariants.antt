@@ -1,5 +1,5 @@
 use Rattle.std.proofs.Common.{◌≡◌, ◌*◌, ◌^◌, ◌≤◌}
-use Rattle.file_tools.specs.Answer.{words_before}
+use Rattle.file_tools.specs.SplitAnswer.{words_before}
 use Rattle.file_tools.specs.Seen.{seen}
 use Rattle.file_tools.proofs.split.count_words.Given as goal
 

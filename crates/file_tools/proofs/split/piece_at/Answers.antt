@@ -2,9 +2,10 @@ use Rattle.std.proofs.Common.{◌≡◌, ◌<◌, ◌/◌, ◌%◌, List, ℕ, [
 use Rattle.std.proofs.Math.Nat.{mod-lt}
 use Rattle.index_tools.specs.Spread.{spread}
 use Rattle.mm_text.specs.Loading.{matrix_of}
-use Rattle.file_tools.specs.Spreading.{owned, array_of}
-use Rattle.file_tools.specs.Lists.{lists_of}
-use Rattle.file_tools.proofs.ListLemmas.{row_below, lists_length, list_is, list_fits}
+use Rattle.spread_cells.specs.Spreading.{owned, array_of}
+use Rattle.spread_cells.specs.Owned.{lists_of}
+use Rattle.spread_cells.proofs.OwnedLists.{lists_length, list_is, list_fits}
+use Rattle.file_tools.proofs.ListLemmas.{row_below}
 use Rattle.file_tools.proofs.split.piece_at.Goals as goal
 
 pub list_at-rows-requires : goal.list_at-rows-requires

@@ -1,12 +1,30 @@
-use Rattle.std.proofs.Common.{◌≡◌, ◌<◌, ◌≤◌, ◌*◌, ◌^◌, IsTrue, [], get_or, ap, length, ◌∙◌, inr, arith}
+use Rattle.std.proofs.Common.{◌≡◌, ◌<◌, ◌≤◌, ◌*◌, ◌^◌, IsTrue, [], get_or, ap, sym, subst, length, ◌∙◌, inr, arith}
 use Rattle.std.proofs.lemmas.Grind.{common_steps}
-use Rattle.store_io.specs.Outside.{Outside}
+use Rattle.store_io.specs.Outside.{Outside, Poured}
 use Rattle.file_tools.specs.Seen.{seen}
 use Rattle.file_tools.specs.Lists.{texts_of}
-use Rattle.file_tools.specs.Answer.{job_words, name_of}
+use Rattle.file_tools.specs.SplitAnswer.{job_words, name_of, split_answer, IsSplitFile}
+use Rattle.file_tools.specs.Outcome.{IsAnswered, IsTold}
+use Rattle.file_tools.specs.declared.status.Status.{Status}
 use Rattle.file_tools.proofs.ListLemmas.{names_length, name_is}
-use Rattle.file_tools.proofs.AnswerLaws.{large_answered, large_told, done_answered, fails_later, late_fault}
+use Rattle.file_tools.proofs.AnswerLaws.{load_answered, load_told, large_answered, large_told, done_answered, fails_later, late_fault}
 use Rattle.file_tools.proofs.split.run_split.Goals as goal
+
+pub returns-in-Err-clause-answered : goal.returns-in-Err-clause-answered
+returns-in-Err-clause-answered g c = λ told.
+    let old : Outside = g.S.Store.state c.args.store.now in
+    let new : Outside = g.S.Store.state c.read_matrix.new.store in
+    let P : Status → Type 0 = λ s. IsAnswered s (split_answer (seen c.args.split.now) old.files) old new in
+    subst P (sym c.refuse.ensures.status) (load_answered c.in-Err.error (seen c.args.split.now) old new (c.in-Err.ensures.loads told) c.in-Err.ensures.same.files c.in-Err.ensures.cause)
+
+pub returns-in-Err-clause-told : goal.returns-in-Err-clause-told
+returns-in-Err-clause-told g c = λ told heard.
+    let old : Outside = g.S.Store.state c.args.store.now in
+    let new : Outside = g.S.Store.state c.read_matrix.new.store in
+    let before : Poured = g.E.Sink.state c.args.err.now in
+    let after : Poured = g.E.Sink.state c.refuse.new.err in
+    let P : Status → Type 0 = λ s. IsTold s (split_answer (seen c.args.split.now) old.files) (IsSplitFile (seen c.args.split.now)) old new before after in
+    subst P (sym c.refuse.ensures.status) (load_told c.in-Err.error (seen c.args.split.now) old new before after (c.in-Err.ensures.loads told) c.in-Err.ensures.cause (c.refuse.ensures.gains heard))
 
 pub name_at-requires : goal.name_at-requires
 name_at-requires g c =

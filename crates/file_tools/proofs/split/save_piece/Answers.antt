@@ -1,6 +1,6 @@
 use Rattle.std.proofs.Common.{◌≡◌, ◌*◌, [], length, get_or, ap, ◌∙◌, arith}
 use Rattle.file_tools.specs.Lists.{texts_of}
-use Rattle.file_tools.specs.Answer.{name_of}
+use Rattle.file_tools.specs.SplitAnswer.{name_of}
 use Rattle.file_tools.specs.Seen.{seen}
 use Rattle.file_tools.proofs.ListLemmas.{names_length, name_is}
 use Rattle.file_tools.proofs.SavingLemmas.{saves_along}
@@ -16,4 +16,4 @@ returns-clause-saves g c = λ told.
     let name : c.name_at.result.now ≡ name_of (seen c.args.split.now) c.args.k
     = c.name_at.ensures ∙ ap (λ names. get_or (texts_of names) c.args.k []) c.deref.ensures.value
     ∙ name_is c.args.split.now.prefix.now c.args.split.now.npcol (c.args.split.now.nprow * c.args.split.now.npcol) c.args.k (texts_of c.args.pieces.now.names.items) c.requires.names c.requires.piece in
-    saves_along c.write_piece.result _ _ _ _ _ _ _ _ name c.head-head.ensures c.piece_at-piece.ensures (c.write_piece.ensures.saves told)
+    saves_along c.write_cells.result _ _ _ _ _ _ _ _ name c.head-head.ensures c.piece_at-piece.ensures (c.write_cells.ensures.saves told)

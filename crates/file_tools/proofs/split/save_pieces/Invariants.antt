@@ -1,7 +1,7 @@
 use Rattle.std.proofs.Common.{◌≡◌, IsTrue}
 use Rattle.store_io.specs.Outside.{SameCounts}
 use Rattle.mm_text.specs.Loading.{matrix_of}
-use Rattle.file_tools.specs.Answer.{saved}
+use Rattle.file_tools.specs.SplitAnswer.{saved}
 use Rattle.file_tools.specs.Seen.{seen}
 use Rattle.file_tools.proofs.split.save_pieces.Given as goal
 

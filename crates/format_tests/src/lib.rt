@@ -1,0 +1,13 @@
+//! Tests of the stores, of matrix files and of piece files.
+#![tactic(auto)]
+
+#[cfg(test)]
+mod drops;
+#[cfg(test)]
+mod matrices;
+#[cfg(test)]
+mod pieces;
+#[cfg(test)]
+mod stores;
+#[cfg(test)]
+mod texts;

@@ -1,0 +1,12 @@
+pub mod LineSteps
+pub mod RunSteps
+pub mod LineFinding
+pub mod BannerSteps
+pub mod StepSteps
+pub mod WayLaws
+pub mod PartLaws
+pub mod SizeSteps
+pub mod ValueSteps
+pub mod ShortLaws
+pub mod ShortTaking
+pub mod ValueLaws

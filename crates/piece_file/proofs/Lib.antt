@@ -1,0 +1,9 @@
+pub mod DescLineSteps
+pub mod CheckSteps
+pub mod PartLaws
+pub mod StepLaws
+pub mod SizeSteps
+pub mod ArrayLaws
+pub mod TurnLaws
+pub mod GatherSteps
+pub mod WritingLaws

@@ -1,0 +1,141 @@
+//! The form of the line that tells a piece's head.
+ghost use Rattle.std.specs.Prelude.{◌≡◌, ◌<◌, [], ◌∷◌, List, length, pos, slice_index_or, slice_set, MatchOption, None, Some, IfSome, IfNone, OnSome, bytes_eq};
+ghost use Rattle.std.specs.Option.{option_map};
+ghost use Rattle.line_text.specs.Words.{words};
+ghost use Rattle.line_text.specs.Numbers.{signed_number};
+ghost use Rattle.mm_grammar.specs.Parts.{starts_blank};
+ghost use Rattle.piece_grammar.specs.Desc.{desc_word, in_32_bits, numbers_of, desc_numbered, desc_if_all, desc_words, desc_of};
+ghost use Rattle.piece_file.specs.DescView.{desc_view};
+
+use crate::desc::Desc;
+use line_text::{Integer, is_blank_byte, next_word, read_integer};
+
+const NUMBERS: usize = 11;
+
+// The integer that a word writes, where it has 32 bits.
+#[tactic(auto, using(crate::proofs::DescLineSteps::no_integer, crate::proofs::DescLineSteps::in_range, crate::proofs::DescLineSteps::out_of_range))]
+fn integer(word: &[u8]) -> Option<i32>
+    ensures { result ≡ in_32_bits (signed_number word.now) }
+{
+    match read_integer(word) {
+        Some(Integer::Fits(number)) => Some(number),
+        Some(Integer::OutOfRange) => None,
+        None => None,
+    }
+}
+
+// Sets the number at a place.
+fn set_number(numbers: &mut [i32], place: usize, number: i32)
+    requires { place < length numbers.old }
+    ensures { numbers.new ≡ slice_set numbers.old place number }
+{
+    numbers[place] = number;
+}
+
+// The eleven integers of a line that has no other words.
+#[tactic(auto, using(crate::proofs::DescLineSteps::none_read, crate::proofs::DescLineSteps::one_read, crate::proofs::DescLineSteps::too_few, crate::proofs::DescLineSteps::no_number, crate::proofs::DescLineSteps::too_many, crate::proofs::DescLineSteps::all_read))]
+fn eleven_integers(line: &[u8]) -> Option<[i32; NUMBERS]>
+    ensures { MatchOption result (desc_if_all (numbers_of (words line.now)) ≡ None)
+        (λ numbers. numbers_of (words line.now) ≡ Some numbers) }
+{
+    let mut numbers = [0; NUMBERS];
+    let mut rest = line;
+    for k in 0..NUMBERS {
+        let Some((word, behind)) = next_word(rest) else {
+            return None;
+        };
+        let Some(number) = integer(word) else {
+            return None;
+        };
+        set_number(&mut numbers, k, number);
+        rest = behind;
+    }
+    match next_word(rest) {
+        Some(_) => None,
+        None => Some(numbers),
+    }
+}
+
+// The number at a place.
+fn number_at(numbers: &[i32], place: usize) -> i32
+    requires { place < length numbers.now }
+    ensures { result ≡ slice_index_or numbers.now place (pos 0) }
+{
+    numbers[place]
+}
+
+// The numbers in the order of the line.
+#[tactic(auto, using(crate::proofs::DescLineSteps::eleven))]
+fn numbered(numbers: &[i32]) -> Desc
+    requires { length numbers.now ≡ 11 }
+    ensures { Some (desc_view result) ≡ desc_numbered numbers.now }
+{
+    let nprow = number_at(numbers, 0);
+    let npcol = number_at(numbers, 1);
+    let prow = number_at(numbers, 2);
+    let pcol = number_at(numbers, 3);
+    let m = number_at(numbers, 4);
+    let n = number_at(numbers, 5);
+    let mb = number_at(numbers, 6);
+    let nb = number_at(numbers, 7);
+    let rsrc = number_at(numbers, 8);
+    let csrc = number_at(numbers, 9);
+    let lld = number_at(numbers, 10);
+    Desc {
+        nprow,
+        npcol,
+        prow,
+        pcol,
+        m,
+        n,
+        mb,
+        nb,
+        rsrc,
+        csrc,
+        lld,
+    }
+}
+
+// Whether a word is the mark of such lines.
+#[tactic(auto, unfolding(piece_grammar::specs::Desc::desc_word))]
+fn is_mark(word: &[u8]) -> bool
+    ensures { result ≡ bytes_eq word.now desc_word }
+{
+    word == b"%DESC".as_slice()
+}
+
+fn starts_with_blank(line: &[u8]) -> bool
+    ensures { result ≡ starts_blank line.now }
+{
+    match line {
+        [first, ..] => is_blank_byte(*first),
+        [] => false,
+    }
+}
+
+// The numbers of the words of a line, where the first is the mark.
+#[tactic(auto, unfolding(piece_grammar::specs::Desc::desc_words))]
+fn marked_numbers(line: &[u8]) -> Option<Desc>
+    ensures { option_map desc_view result ≡ desc_words (words line.now) }
+{
+    let Some((mark, rest)) = next_word(line) else {
+        return None;
+    };
+    if !is_mark(mark) {
+        return None;
+    }
+    let Some(numbers) = eleven_integers(rest) else {
+        return None;
+    };
+    Some(numbered(&numbers))
+}
+
+/// The numbers of a line that starts at its first byte with the word `%DESC` and has eleven integers of 32 bits behind it.
+pub(crate) fn read_desc_line(line: &[u8]) -> Option<Desc>
+    ensures { option_map desc_view result ≡ desc_of line.now }
+{
+    if starts_with_blank(line) {
+        return None;
+    }
+    marked_numbers(line)
+}

@@ -1,0 +1,10 @@
+pub mod Rows
+pub mod Table
+pub mod Heads
+pub mod Steps
+pub mod Soundness
+pub mod Completeness
+pub mod Laws
+pub mod GatherLaws
+pub mod GoodHeads
+pub mod PlainPieceLaws

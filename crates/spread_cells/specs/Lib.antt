@@ -1,0 +1,13 @@
+pub use Rattle.index_tools.specs.Home
+pub use Rattle.index_tools.specs.Spread
+pub use Rattle.pack_words.specs.LocalCells
+pub use Rattle.mm_grammar.specs.Matrix
+pub mod LayoutView
+pub mod IndexHomes
+pub mod Joining
+pub mod JoinedView
+pub mod JoinedMatrix
+pub mod Spreading
+pub mod JoiningBack
+pub mod Owned
+pub mod PieceView

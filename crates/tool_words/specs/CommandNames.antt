@@ -1,0 +1,12 @@
+-- The words that name the commands.
+use Rattle.std.specs.Prelude.{ℕ, List, codes}
+use Rattle.tool_words.specs.declared.command.Command.{Command}
+use Rattle.tool_words.specs.declared.command.Command.TheVariants.{Split, Join, Move, Check, Run, Load}
+
+unfoldable pub name_of : Command → List ℕ
+name_of Split = codes "split"
+name_of Join = codes "join"
+name_of Move = codes "move"
+name_of Check = codes "check"
+name_of Run = codes "run"
+name_of Load = codes "load"

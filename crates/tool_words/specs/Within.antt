@@ -1,0 +1,31 @@
+-- The bounds of what the words ask for.
+use Rattle.std.specs.Prelude.{◌≡◌, ℕ, ◌*◌, ◌^◌, ◌≤◌, ◌<◌, true}
+use Rattle.tool_words.specs.CommandWords.{is_name}
+use Rattle.tool_words.specs.declared.asked.How.{How}
+use Rattle.tool_words.specs.declared.asked.How.TheVariants.{Plain, Threads, Seed}
+use Rattle.tool_words.specs.declared.asked.Asked.{Asked}
+use Rattle.tool_words.specs.declared.asked.Asked.TheVariants.{Split, Join, Move, Check, Run, Load}
+
+-- a grid of p by q processes, 64 at most, and blocks of mb by nb
+pub record IsTarget (p q mb nb : ℕ) : Type 0 where
+  pub rows : 1 ≤ p
+  pub columns : 1 ≤ q
+  pub grid : p * q ≤ 64
+  pub row_block : 1 ≤ mb
+  pub row_block_fits : mb ≤ 2 ^ 24
+  pub column_block : 1 ≤ nb
+  pub column_block_fits : nb ≤ 2 ^ 24
+
+abbrev pub IsHow : How → Type 0
+IsHow Plain = Unit {0}
+IsHow Threads = Unit {0}
+IsHow (Seed s) = s < 2 ^ 64
+
+-- every name is one, and every number lies within its bounds
+abbrev pub IsWithin : Asked → Type 0
+IsWithin (Split input output p q mb nb) = (is_name input ≡ true) × (is_name output ≡ true) × IsTarget p q mb nb
+IsWithin (Join prefix output) = (is_name prefix ≡ true) × (is_name output ≡ true)
+IsWithin (Move prefix output p q mb nb how) = (is_name prefix ≡ true) × (is_name output ≡ true) × IsTarget p q mb nb × IsHow how
+IsWithin (Check program) = is_name program ≡ true
+IsWithin (Run program how) = (is_name program ≡ true) × IsHow how
+IsWithin (Load seed size) = (seed < 2 ^ 64) × (1 ≤ size) × (size ≤ 2000)

@@ -1,0 +1,37 @@
+//! The commands of the tool.
+ghost use Rattle.std.specs.Prelude.{◌≡◌};
+ghost use Rattle.tool_words.specs.CommandNames.{name_of};
+
+/// A command of the tool, named as its first word is.
+#[derive(Clone, Copy, Debug, PartialEq, Eq)]
+pub enum Command {
+    /// `split IN OUT P Q MB NB`
+    Split,
+    /// `join PREFIX OUT`
+    Join,
+    /// `move PREFIX OUT P Q MB NB [--threads | --seed S]`
+    Move,
+    /// `check PROGRAM`
+    Check,
+    /// `run PROGRAM [--threads | --seed S]`
+    Run,
+    /// `load SEED SIZE`
+    Load,
+}
+
+impl Command {
+    // The word that names it.
+    #[tactic(auto, unfolding(crate::specs::CommandNames::name_of))]
+    pub(crate) fn name<'a>(self) -> &'a str
+        ensures { result.now ≡ name_of self }
+    {
+        match self {
+            Command::Split => "split",
+            Command::Join => "join",
+            Command::Move => "move",
+            Command::Check => "check",
+            Command::Run => "run",
+            Command::Load => "load",
+        }
+    }
+}
