@@ -110,6 +110,59 @@ fn refusals(rt: HostRuntime) -> Result<(), Fail> {
 }
 
 #[test]
+fn faults_of_matrix_files(rt: HostRuntime) -> Result<(), Fail> {
+    let alloc = rt.alloc();
+    let general = "%%MatrixMarket matrix array integer general\n";
+    let cases = [
+        ("", "", "line 1: not a Matrix Market file"),
+        ("\u{1f}", "", "line 1: byte that is not text"),
+        (
+            "%%MatrixMarket matrix coordinate integer general\n",
+            "",
+            "line 1: not an array of integers",
+        ),
+        (
+            "%%MatrixMarket matrix array integer hermitian\n",
+            "",
+            "line 1: unknown symmetry",
+        ),
+        (general, "16777216 5\n", "line 2: bad size line"),
+        (general, "3 2\n2147483648\n", "line 3: value out of range"),
+        (general, "1 1\n1 2\n", "line 3: bad value"),
+        (
+            general,
+            "3 2\n1\n2\n3\n4\n5\n",
+            "line 8: too few values, have 5 want 6",
+        ),
+        (
+            general,
+            "3 2\n1\n2\n3\n4\n5\n6\n7\n",
+            "line 9: too many values, want 6",
+        ),
+        (
+            general,
+            "16777216 4\n",
+            "line 3: too few values, have 0 want 67108864",
+        ),
+    ];
+    for (head, body, fault) in cases {
+        let mut store = MemStore::new(alloc, 4096, 8)?;
+        let mut err = MemSink::new(alloc, 256)?;
+        let text = format!(in alloc; "{head}{body}")?;
+        assert!(rt; store.put("f", text.as_bytes()));
+        let line = format!(in alloc; "gridtool: f: {fault}\n")?;
+        assert_eq!(rt;
+            run(alloc, &mut store, &mut err, "split f x 1 1 2 2")?,
+            Status::Refused,
+            "{fault}"
+        );
+        assert_eq!(rt; err.bytes(), line.as_bytes());
+        assert_eq!(rt; store.file("x.0.0"), None);
+    }
+    Ok(())
+}
+
+#[test]
 fn numbers_of_twenty_digits(rt: HostRuntime) -> Result<(), Fail> {
     let alloc = rt.alloc();
     let mut store = MemStore::new(alloc, 4096, 8)?;

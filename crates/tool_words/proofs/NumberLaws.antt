@@ -1,7 +1,5 @@
 -- Numbers among the words, read as the code reads them.
 use Rattle.std.proofs.Common.{◌≡◌, ℕ, subst, ◌^◌, ◌<◌, ◌≤◌, Bool, true, false, ◌&&◌, cond, nat_le, List, [], ◌∷◌, length, Option, Some, None, Result, Ok, Err, refl, sym, ap, ◌∙◌, arith, rules}
-use Rattle.std.specs.List.{list_all}
-use Rattle.std.specs.Char.{is_ascii_digit}
 use Rattle.std.specs.Str.{all_ascii_digits}
 use Rattle.std.specs.Str.Parse.{digits_value, ParsesUnsigned}
 use Rattle.std.proofs.lemmas.Str.Parse.{IsNumeralModel, numerals_by_value, parse_digits}
@@ -14,10 +12,6 @@ use Rattle.tool_words.specs.CommandWords.{number_within}
 -- digits, as std's `parse` reads them
 own : IsNumeralModel (λ ds. all_ascii_digits ds ≡ true) (digits_value 10)
 own = numerals_by_value _ (search rules)
-
-pub digits_by_all : (ds : List ℕ) → list_all is_ascii_digit ds ≡ all_ascii_digits ds
-digits_by_all [] = refl
-digits_by_all (d ∷ ds) = ap (λ r. is_ascii_digit d && r) (digits_by_all ds)
 
 -- more than 20 bytes are no number
 pub number_long : (low high : ℕ) (ds : List ℕ) → 20 < length ds → number_within low high ds ≡ None

@@ -1,8 +1,9 @@
 //! Names and numbers among the words.
 ghost use Rattle.std.specs.Prelude.{◌≡◌, ◌≤◌, ◌==◌, ◌&&◌, nat_le, Some, None, if◌then◌else◌, IfSome};
 ghost use Rattle.std.specs.List.{list_any};
-ghost use Rattle.std.specs.Str.{all_ascii_digits};
 ghost use Rattle.tool_words.specs.CommandWords.{is_name, number_within};
+
+use line_text::is_digits;
 
 fn has_zero(bytes: &[u8]) -> bool
     ensures { result ≡ list_any (λ b. b == 0) bytes.now }
@@ -15,12 +16,6 @@ pub(crate) fn is_file_name(text: &str) -> bool
     ensures { result ≡ is_name text.now }
 {
     !text.is_empty() && text.len() <= 1024 && !has_zero(text.as_bytes())
-}
-
-fn is_digits(bytes: &[u8]) -> bool
-    ensures { result ≡ all_ascii_digits bytes.now }
-{
-    bytes.iter().all(|byte| byte.is_ascii_digit())
 }
 
 // This number, where it's within these bounds.
