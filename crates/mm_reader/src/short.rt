@@ -39,19 +39,17 @@ fn short_digits(bytes: &[u8], first: u32) -> Option<(u32, usize)>
 {
     let mut number = first;
     for (i, byte) in bytes.iter().enumerate() {
-        if *byte == b'\n' {
-            return Some((number, i + 1));
-        }
-        if *byte == b'\r' {
-            return if ends_at(bytes, i + 1) {
-                Some((number, i + 2))
-            } else {
-                None
-            };
-        }
         match with_digit(number, *byte) {
             Some(more) => number = more,
-            None => return None,
+            None => {
+                return if *byte == b'\n' {
+                    Some((number, i + 1))
+                } else if *byte == b'\r' && ends_at(bytes, i + 1) {
+                    Some((number, i + 2))
+                } else {
+                    None
+                };
+            }
         }
     }
     None
