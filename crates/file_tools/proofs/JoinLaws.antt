@@ -1,12 +1,7 @@
--- What the answer to a join is, by what was gathered.
-use Rattle.std.proofs.Common.{◌≡◌, ℕ, ◌+◌, ◌*◌, ◌^◌, ◌<◌, ◌≤◌, IsTrue, List, refl, sym, ap, subst, ◌∙◌, arith, inl, inr, nat_le, []}
-use Rattle.std.specs.Prelude.{map, max}
-use Rattle.std.specs.FinMap.{insert}
-use Rattle.std.proofs.lemmas.Bool.{le-leb, leb-true}
-use Rattle.store_io.specs.Outside.{Outside, Files, Poured, HasFailed}
-use Rattle.store_io.specs.declared.store.StoreErr.{StoreErr}
-use Rattle.store_io.specs.declared.store.StoreErr.TheVariants as store
-use Rattle.text_io.specs.Saving.{SavesWhy}
+-- What a join saves, and how its walk goes on.
+use Rattle.std.proofs.Common.{◌≡◌, ℕ, ◌+◌, ◌*◌, ◌^◌, ◌<◌, ◌≤◌, IsTrue, List, [], ◌∷◌, refl, sym, ap, subst, ◌∙◌, arith}
+use Rattle.std.specs.Prelude.{map, max, Result}
+use Rattle.store_io.specs.Outside.{Outside, Poured}
 use Rattle.index_tools.specs.Home as home
 use Rattle.pack_words.specs.LocalCells.{LocalCells}
 use Rattle.mm_grammar.specs.PlainText.{plain_text}
@@ -16,111 +11,21 @@ use Rattle.spread_cells.specs.JoinedMatrix.{matrix_of}
 use Rattle.spread_cells.specs.declared.layout.Layout.{Layout}
 use Rattle.piece_grammar.specs.Head.{Piece}
 use Rattle.piece_grammar.specs.Pieces as pieces
-use Rattle.piece_grammar.proofs.GatherLaws.{gathering}
-use Rattle.piece_file.specs.FaultView.{fault_view}
 use Rattle.piece_file.specs.PieceView.{piece_view}
-use Rattle.piece_file.specs.Gathering.{held_in, AreTurns, Refuses, Because}
+use Rattle.piece_file.specs.Gathering.{AreTurns}
 use Rattle.piece_file.specs.declared.piece.Piece.{Piece as Held}
-use Rattle.piece_file.specs.declared.fault.PieceErr.{PieceErr}
-use Rattle.piece_file.specs.declared.fault.PieceErr.TheVariants.{Missing, Failed, Bad, NoMemory}
-use Rattle.file_tools.specs.Texts.{about, missing, too_many_words}
-use Rattle.file_tools.specs.FaultTexts.{piece_fault_text, at_line}
-use Rattle.file_tools.specs.Answer.{Answer, refused}
-use Rattle.file_tools.specs.Asked.{Join}
-use Rattle.file_tools.specs.JoinAnswer.{array_of, layout_by, whole_of, join_words, gathered_answer, join_answer, IsJoinFile}
-use Rattle.file_tools.specs.JoinRefusals.{gather_status, gather_line}
-use Rattle.file_tools.specs.Outcome.{IsAnswered, IsCounted, IsOpened, IsTold, Gains, FailedAtSave}
-use Rattle.file_tools.specs.declared.status.Status.{Status}
+use Rattle.file_tools.specs.Answer.{save}
+use Rattle.file_tools.specs.Texts.{too_many_words}
+use Rattle.file_tools.specs.Walk.{Walk, Ends, Refuses, Comes}
+use Rattle.file_tools.specs.ReadingWalks.{pieces_walk}
+use Rattle.file_tools.specs.JoinWalk.{array_of, layout_by, whole_of, join_words, whole_walk, join_walk}
+use Rattle.file_tools.specs.Troubles.{Follows, Stops, ReadsOn}
 use Rattle.file_tools.specs.declared.status.Status.TheVariants as status
-use Rattle.file_tools.proofs.AnswerLaws.{chosen, passed_over}
+use Rattle.file_tools.specs.declared.trouble.Trouble.{Trouble}
+use Rattle.file_tools.specs.declared.trouble.Trouble.TheVariants as trouble
 use Rattle.file_tools.proofs.TurnLaws.{turns_hold}
-
--- what was gathered is what the answer gathers
-gathered_is : (j : Join) (files : Files) (g : pieces.Gathered) → pieces.IsGathered (held_in files) j.prefix g → join_answer j files ≡ gathered_answer j files g
-gathered_is j files g is = ap (gathered_answer j files) ((gathering (held_in files) j.prefix).only g is)
-
--- the answer is as this one, and so are the files
-same_answer : (s : Status) (a b : Answer) (old new : Outside) → a ≡ b → b.status ≡ s → new.files ≡ b.files → (a.status ≡ s) × (new.files ≡ a.files)
-same_answer s a b old new e status files = (ap (λ (x : Answer). x.status) e ∙ status, files ∙ sym (ap (λ (x : Answer). x.files) e))
-
--- the same line
-same_line : (a b : Answer) (before after : Poured) → a ≡ b → Gains before after b.error → Gains before after a.error
-same_line a b before after e line = let P : List ℕ → Type 0 = Gains before after in subst P (sym (ap (λ (x : Answer). x.error) e)) line
-
--- ---- pieces that weren't gathered
-
-pub gather_answered : (e : PieceErr) (j : Join) (old new : Outside) → Refuses e old.files j.prefix → new.files ≡ old.files → Because e old new → IsAnswered (gather_status e) (join_answer j old.files) old new
-gather_answered (Missing name) j old new is same why =
-    let both = same_answer status.Store (join_answer j old.files) (refused old.files (about name missing) status.Store) old new (gathered_is j old.files (pieces.Missing name) is) refl same in
-    inr (why, both.0, both.1)
-gather_answered (Failed name) j old new is same why = inl why
-gather_answered (Bad name line fault) j old new is same why =
-    same_answer status.Refused (join_answer j old.files) (refused old.files (at_line name line (piece_fault_text (fault_view fault))) status.Refused) old new (gathered_is j old.files (pieces.Bad name (record { line = line; fault = fault_view fault })) is) refl same
-gather_answered NoMemory j old new is same why = same
-
-pub gather_counted : (e : PieceErr) (old new : Outside) → Because e old new → IsCounted (gather_status e) old new
-gather_counted (Missing name) old new why = inr why
-gather_counted (Failed name) old new why = inl why
-gather_counted (Bad name line fault) old new why = why
-gather_counted NoMemory old new why = why
-
-pub gather_opened : (e : PieceErr) (a : Answer) (old new : Outside) → new.opens ≡ old.opens → IsOpened (gather_status e) a old new
-gather_opened (Missing name) a old new same = inl same
-gather_opened (Failed name) a old new same = inl same
-gather_opened (Bad name line fault) a old new same = same
-gather_opened NoMemory a old new same = same
-
-pub gather_told : (e : PieceErr) (j : Join) (old new : Outside) (before after : Poured) → Refuses e old.files j.prefix → Because e old new → Gains before after (gather_line e) → IsTold (gather_status e) (join_answer j old.files) (IsJoinFile j old.files) old new before after
-gather_told (Missing name) j old new before after is why line =
-    inl (why, same_line (join_answer j old.files) (refused old.files (about name missing) status.Store) before after (gathered_is j old.files (pieces.Missing name) is) line)
-gather_told (Failed name) j old new before after is why line = inr (why, record { name = name; file = inl is; line = line })
-gather_told (Bad name line fault) j old new before after is why said =
-    same_line (join_answer j old.files) (refused old.files (at_line name line (piece_fault_text (fault_view fault))) status.Refused) before after (gathered_is j old.files (pieces.Bad name (record { line = line; fault = fault_view fault })) is) said
-gather_told NoMemory j old new before after is why line = line
-
-pub gather_in_table : (e : PieceErr) → gather_status e ≡ status.Words → ⊥
-gather_in_table (Missing name) e = cc
-gather_in_table (Failed name) e = cc
-gather_in_table (Bad name line fault) e = cc
-gather_in_table NoMemory e = cc
-
--- ---- pieces that were gathered
-
--- all of these, in the files
-abbrev pub AreGathered : Join → Files → List Piece → Type 0
-AreGathered j files ps = pieces.IsGathered (held_in files) j.prefix (pieces.Whole ps)
-
-small_is : (j : Join) (files : Files) (ps : List Piece) → AreGathered j files ps → join_words ps ≤ 2 ^ 26 → join_answer j files ≡ record { files = insert files j.output (plain_text (whole_of ps)); output = []; error = []; status = status.Done }
-small_is j files ps is le = gathered_is j files (pieces.Whole ps) is ∙ chosen (nat_le (join_words ps) (2 ^ 26)) _ _ (le-leb _ _ le)
-
-large_is : (j : Join) (files : Files) (ps : List Piece) → AreGathered j files ps → 2 ^ 26 < join_words ps → join_answer j files ≡ refused files (too_many_words (join_words ps)) status.Refused
-large_is j files ps is lt = gathered_is j files (pieces.Whole ps) is ∙ passed_over (nat_le (join_words ps) (2 ^ 26)) _ _ (λ e. omega (arith, lt, leb-true (join_words ps) (2 ^ 26) e))
-
--- a join above the limit
-pub large_answered : (j : Join) (ps : List Piece) (old new : Outside) → AreGathered j old.files ps → 2 ^ 26 < join_words ps → new.files ≡ old.files → IsAnswered status.Refused (join_answer j old.files) old new
-large_answered j ps old new is lt same = same_answer status.Refused (join_answer j old.files) (refused old.files (too_many_words (join_words ps)) status.Refused) old new (large_is j old.files ps is lt) refl same
-
-pub large_told : (j : Join) (ps : List Piece) (words : ℕ) (old new : Outside) (before after : Poured) → AreGathered j old.files ps → words ≡ join_words ps → 2 ^ 26 < words → Gains before after (too_many_words words)
-    → IsTold status.Refused (join_answer j old.files) (IsJoinFile j old.files) old new before after
-large_told j ps words old new before after is count lt line =
-    let P : ℕ → Type 0 = λ n. Gains before after (too_many_words n) in
-    same_line (join_answer j old.files) (refused old.files (too_many_words (join_words ps)) status.Refused) before after (large_is j old.files ps is (omega (arith, lt, count))) (subst P count line)
-
--- the matrix is saved
-pub done_answered : (j : Join) (ps : List Piece) (old mid new : Outside) (text : List ℕ) → AreGathered j old.files ps → join_words ps ≤ 2 ^ 26 → mid.files ≡ old.files → text ≡ plain_text (whole_of ps) → new.files ≡ insert mid.files j.output text
-    → IsAnswered status.Done (join_answer j old.files) old new
-done_answered j ps old mid new text is le same here saves =
-    same_answer status.Done (join_answer j old.files) (record { files = insert old.files j.output (plain_text (whole_of ps)); output = []; error = []; status = status.Done }) old new (small_is j old.files ps is le) refl
-    (saves ∙ ap (λ (files : Files). insert files j.output text) same ∙ ap (insert old.files j.output) here)
-
--- the store failed at it
-pub late_fault : (j : Join) (ps : List Piece) (old new : Outside) → HasFailed old new → (IsTrue old.told → AreGathered j old.files ps) → join_words ps ≤ 2 ^ 26 → FailedAtSave (join_answer j old.files) old new
-late_fault j ps old new failed held le = record { failed = failed; late = λ told. ap (λ (a : Answer). a.status) (small_is j old.files ps (held told) le) }
-
--- writing a file fails where the store failed
-pub saves_failed : (e : StoreErr) (old new : Outside) → SavesWhy e old new → HasFailed old new
-saves_failed store.Failed old new why = why
-saves_failed store.Missing old new why = absurd why
+use Rattle.file_tools.proofs.LimitLaws.{within, above, refused_stops}
+use Rattle.file_tools.proofs.GoingOn.{follows_on}
 
 -- ---- what the code holds
 
@@ -147,3 +52,38 @@ pub cells_are_whole : (items d : List Held) (l : Layout) (arrays now : List Loca
     → plain_text (matrix_of cells) ≡ plain_text (whole_of (map piece_view items))
 cells_are_whole items d l arrays now cells here layout are is made =
     ap plain_text (ap matrix_of made ∙ ap (λ (m : home.Layout). joined m now) (layout ∙ ap (λ (ps : List Held). layout_by (map piece_view ps)) here) ∙ ap (joined (layout_by (map piece_view items))) (is ∙ are))
+
+-- ---- the limit
+
+pub small_is : (output : List ℕ) (ps : List Piece) → join_words ps ≤ 2 ^ 26 → whole_walk output ps ≡ Ends (save output (plain_text (whole_of ps)) ∷ []) []
+unfolding whole_walk
+small_is output ps le = within (join_words ps) _ _ le
+
+large_is : (output : List ℕ) (ps : List Piece) → 2 ^ 26 < join_words ps → whole_walk output ps ≡ Refuses (too_many_words (join_words ps)) status.Refused
+unfolding whole_walk
+large_is output ps lt = above (join_words ps) _ _ lt
+
+-- a join above the limit
+pub large_stops : (output : List ℕ) (ps : List Piece) (words : ℕ) (old : Outside) → words ≡ join_words ps → 2 ^ 26 < words → Stops (trouble.TooMany words) (whole_walk output ps) old old
+large_stops output ps words old count lt pour =
+    refused_stops (whole_walk output ps) (too_many_words words) old pour (large_is output ps (omega (arith, lt, count)) ∙ ap (λ n. Refuses (too_many_words n) status.Refused) (sym count))
+
+-- a join within the limit
+pub small_follows : {X : Type 0} (r : Result X Trouble) (output text : List ℕ) (ps : List Piece) (words : ℕ) (old new : Outside) → words ≡ join_words ps → words ≤ 2 ^ 26 → text ≡ plain_text (whole_of ps)
+    → ((pour : Poured) → Follows r (Ends (save output text ∷ []) []) old new pour pour) → (pour : Poured) → Follows r (whole_walk output ps) old new pour pour
+small_follows r output text ps words old new count le is then pour =
+    subst (λ (w : Walk). Follows r w old new pour pour) (ap (λ (t : List ℕ). Ends (save output t ∷ []) []) is ∙ sym (small_is output ps (omega (arith, le, count)))) (then pour)
+
+-- ---- the whole walk
+
+pub join_is : (prefix output : List ℕ) → join_walk prefix output ≡ pieces_walk prefix (whole_walk output)
+unfolding join_walk
+join_is prefix output = refl
+
+pub join_stops : (x : Trouble) (prefix output : List ℕ) (old new : Outside) → Stops x (pieces_walk prefix (whole_walk output)) old new → Stops x (join_walk prefix output) old new
+join_stops x prefix output old new stops = subst (λ (w : Walk). Stops x w old new) (sym (join_is prefix output)) stops
+
+pub join_goes_on : {X : Type 0} (r : Result X Trouble) (prefix output : List ℕ) (ps : List Piece) (old mid new : Outside) → (IsTrue old.told → Comes (pieces_walk prefix (whole_walk output)) old.files (whole_walk output ps)) → ReadsOn old mid
+    → ((pour : Poured) → Follows r (whole_walk output ps) mid new pour pour) → (pour : Poured) → Follows r (join_walk prefix output) old new pour pour
+join_goes_on r prefix output ps old mid new comes on then =
+    subst (λ (w : Walk). (pour : Poured) → Follows r w old new pour pour) (sym (join_is prefix output)) (follows_on r (pieces_walk prefix (whole_walk output)) (whole_walk output ps) old mid new comes on then)

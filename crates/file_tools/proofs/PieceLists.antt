@@ -8,9 +8,9 @@ use Rattle.piece_grammar.specs.Head as grammar
 use Rattle.piece_grammar.specs.Pieces.{words_of}
 use Rattle.piece_file.specs.PieceView.{piece_view}
 use Rattle.piece_file.specs.declared.piece.Piece.{Piece}
-use Rattle.file_tools.specs.JoinAnswer.{array_of}
+use Rattle.file_tools.specs.JoinWalk.{array_of}
 
-words_with : (ps : List grammar.Piece) (p : grammar.Piece) → words_of (ps ++ p ∷ []) ≡ words_of ps + grammar.array_words p.head
+pub words_with : (ps : List grammar.Piece) (p : grammar.Piece) → words_of (ps ++ p ∷ []) ≡ words_of ps + grammar.array_words p.head
 words_with ps p =
     let words : grammar.Piece → ℕ = λ q. grammar.array_words q.head in
     ap sum (map-append words ps (p ∷ [])) ∙ sum_by_push (λ n. n) (map words ps) (grammar.array_words p.head)

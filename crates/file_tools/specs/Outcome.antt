@@ -1,60 +1,134 @@
--- What a call of the tool does, by the status that it answers.
-use Rattle.std.specs.Prelude.{◌≡◌, ℕ, IsTrue, List, ◌++◌}
+-- What a call leaves, by its status: the store before and after it (old, new), the output before and after it (before,
+-- after), and the line that is said on the error stream.
+use Rattle.std.specs.Prelude.{◌≡◌, ℕ, zero, suc, ◌+◌, ◌-◌, ◌^◌, min, IsTrue, List, [], ◌∷◌, ◌++◌, length}
 use Rattle.store_io.specs.Outside.{Outside, Poured, SameCounts, HasFailed, HasMissed, Rose, IsEither}
-use Rattle.file_tools.specs.Texts.{about, store_fault, out_of_memory}
+use Rattle.text_io.specs.Saving.{HoldsFront}
+use Rattle.file_tools.specs.Texts.{missing, store_fault, out_of_memory, output_fault}
 use Rattle.file_tools.specs.Saying.{SaysFront}
-use Rattle.file_tools.specs.Answer.{Answer}
+use Rattle.file_tools.specs.Answer.{Save, save, saved, refused, done}
+use Rattle.file_tools.specs.Walk.{Walk, Refuses, answer, Needs}
 use Rattle.file_tools.specs.declared.status.Status.{Status}
-use Rattle.file_tools.specs.declared.status.Status.TheVariants.{Done, Refused, Words, Store, NoMemory, Sink}
+use Rattle.file_tools.specs.declared.status.Status.TheVariants as status
 
--- A store that tells holds the answer's files, and the status is the answer's. Want of memory is free, and leaves the
--- files as they were. `Store` comes where the store failed, or where a file is missing and the answer says so.
-abbrev pub IsAnswered : Status → Answer → Outside → Outside → Type 0
-IsAnswered Done a old new = (a.status ≡ Done) × (new.files ≡ a.files)
-IsAnswered Refused a old new = (a.status ≡ Refused) × (new.files ≡ a.files)
-IsAnswered Words a old new = (a.status ≡ Words) × (new.files ≡ a.files)
-IsAnswered Store a old new = IsEither (HasFailed old new) (HasMissed old new × (a.status ≡ Store) × (new.files ≡ a.files))
-IsAnswered NoMemory a old new = new.files ≡ old.files
-IsAnswered Sink a old new = ⊥
+-- all files are as before, and none was opened for writing
+pub record Untouched (old new : Outside) : Type 0 where
+  pub files : new.files ≡ old.files
+  pub opens : new.opens ≡ old.opens
 
--- Every count of a store stands where it stood, but for `Store`, which comes only where one of them rose. `Sink` can't come.
-abbrev pub IsCounted : Status → Outside → Outside → Type 0
-IsCounted Done old new = SameCounts old new
-IsCounted Refused old new = SameCounts old new
-IsCounted Words old new = SameCounts old new
-IsCounted Store old new = IsEither (HasFailed old new) (HasMissed old new)
-IsCounted NoMemory old new = SameCounts old new
-IsCounted Sink old new = ⊥
+-- a count of openings, after so many more; it stops at its last value
+unfoldable pub opened : (more before : ℕ) → ℕ
+opened zero before = before
+opened (suc more) before = min (opened more before + 1) (2 ^ 64 - 1)
 
--- the store failed at a file that is saved, so the answer has no other fault
-pub record FailedAtSave (a : Answer) (old new : Outside) : Type 0 where
+-- the walk ends with these saves and this output
+abbrev pub EndsWith : (walk : Walk) → List Save → (output : List ℕ) → (old : Outside) → Type 0
+EndsWith walk saves output old = IsTrue old.told → answer walk old.files ≡ done saves output
+
+-- All was done that the walk asks for, with one opening for each save.
+pub record IsDone (walk : Walk) (line : List ℕ) (old new : Outside) (before after : Poured) : Type 0 where
+  pub saves : List Save
+  pub output : List ℕ
+  pub answered : EndsWith walk saves output old
+  pub files : IsTrue old.told → new.files ≡ saved saves old.files
+  pub opens : new.opens ≡ opened (length saves) old.opens
+  pub gained : IsTrue before.told → after.bytes ≡ before.bytes ++ output
+  pub counts : SameCounts old new
+  pub poured : after.faults ≡ before.faults
+  pub line_is : line ≡ []
+
+-- The words aren't in the table, and the usage is said.
+pub record IsUsage (walk : Walk) (line : List ℕ) (old new : Outside) (before after : Poured) : Type 0 where
+  pub walk_is : walk ≡ Refuses line status.Words
+  pub untouched : Untouched old new
+  pub counts : SameCounts old new
+  pub silent : after ≡ before
+
+-- What was read is refused, or a limit is passed.
+pub record IsRefused (walk : Walk) (line : List ℕ) (old new : Outside) (before after : Poured) : Type 0 where
+  pub answered : IsTrue old.told → answer walk old.files ≡ refused line status.Refused
+  pub untouched : Untouched old new
+  pub counts : SameCounts old new
+  pub silent : after ≡ before
+
+-- A file isn't held, and so the walk ends there.
+pub record LacksFile (walk : Walk) (name line : List ℕ) (old new : Outside) : Type 0 where
+  pub missed : HasMissed old new
+  pub line_is : line ≡ missing name
+  pub answered : IsTrue old.told → answer walk old.files ≡ refused line status.Store
+
+-- The store failed at a file.
+pub record FailsAtFile (name line : List ℕ) (old new : Outside) : Type 0 where
   pub failed : HasFailed old new
-  pub late : IsTrue old.told → a.status ≡ Done
+  pub line_is : line ≡ store_fault name
 
--- No file was opened for writing, but where all was done or the store failed at a file that is saved.
-abbrev pub IsOpened : Status → Answer → Outside → Outside → Type 0
-IsOpened Done a old new = Unit {0}
-IsOpened Refused a old new = new.opens ≡ old.opens
-IsOpened Words a old new = new.opens ≡ old.opens
-IsOpened Store a old new = IsEither (new.opens ≡ old.opens) (FailedAtSave a old new)
-IsOpened NoMemory a old new = new.opens ≡ old.opens
-IsOpened Sink a old new = ⊥
+-- A file that the walk needs isn't held, or the store failed at it. What the walk needs before is held and good.
+pub record StopsAtNeed (walk : Walk) (line : List ℕ) (old new : Outside) (before after : Poured) : Type 0 where
+  pub name : List ℕ
+  pub needed : IsTrue old.told → Needs walk old.files name
+  pub why : IsEither (LacksFile walk name line old new) (FailsAtFile name line old new)
+  pub untouched : Untouched old new
+  pub silent : after ≡ before
+
+-- The store failed at a save. Those before it are done, its file has its old contents or a front of its text, and every
+-- other file is as before. No later save was begun.
+pub record StopsAtSave (walk : Walk) (line : List ℕ) (old new : Outside) (before after : Poured) : Type 0 where
+  pub first : List Save
+  pub name : List ℕ
+  pub text : List ℕ
+  pub later : List Save
+  pub output : List ℕ
+  pub answered : EndsWith walk (first ++ save name text ∷ later) output old
+  pub files : IsTrue old.told → IsEither (new.files ≡ saved first old.files) (HoldsFront (saved first old.files) new.files name text)
+  pub opens : new.opens ≡ opened (suc (length first)) old.opens
+  pub why : FailsAtFile name line old new
+  pub silent : after ≡ before
+
+-- Memory was wanted.
+pub record WantsMemory (line : List ℕ) (old new : Outside) (before after : Poured) : Type 0 where
+  pub untouched : Untouched old new
+  pub counts : SameCounts old new
+  pub silent : after ≡ before
+  pub line_is : line ≡ out_of_memory
+
+-- All saves are done, and the output failed: it gained some front of what it was to gain.
+pub record FailsAtOutput (walk : Walk) (line : List ℕ) (old new : Outside) (before after : Poured) : Type 0 where
+  pub saves : List Save
+  pub output : List ℕ
+  pub answered : EndsWith walk saves output old
+  pub files : IsTrue old.told → new.files ≡ saved saves old.files
+  pub opens : new.opens ≡ opened (length saves) old.opens
+  pub gained : IsTrue before.told → SaysFront before after output
+  pub counts : SameCounts old new
+  pub poured : Rose before.faults after.faults
+  pub line_is : line ≡ output_fault
+
+-- what a call leaves that ends with this status and this line
+abbrev pub Leaves : Status → (walk : Walk) → (line : List ℕ) → (old new : Outside) → (before after : Poured) → Type 0
+Leaves status.Done walk line old new before after = IsDone walk line old new before after
+Leaves status.Refused walk line old new before after = IsRefused walk line old new before after
+Leaves status.Words walk line old new before after = IsUsage walk line old new before after
+Leaves status.Store walk line old new before after = IsEither (StopsAtNeed walk line old new before after) (StopsAtSave walk line old new before after)
+Leaves status.NoMemory walk line old new before after = WantsMemory line old new before after
+Leaves status.Sink walk line old new before after = FailsAtOutput walk line old new before after
 
 -- an error stream gained the line; or it failed, and gained some front of it
 abbrev pub Gains : Poured → Poured → List ℕ → Type 0
 Gains old new line = IsEither (new.bytes ≡ old.bytes ++ line) (SaysFront old new line × Rose old.faults new.faults)
 
--- the line of a store's fault at one of these files
-pub record TellsFault (IsFile : List ℕ → Type 0) (old new : Poured) : Type 0 where
-  pub name : List ℕ
-  pub file : IsFile name
-  pub line : Gains old new (about name store_fault)
+-- The same with the error stream before and after it (quiet, said). A fault of the error stream changes no status.
+pub record IsOutcome (s : Status) (walk : Walk) (old new : Outside) (before after quiet said : Poured) : Type 0 where
+  pub line : List ℕ
+  pub leaves : Leaves s walk line old new before after
+  pub says : IsTrue quiet.told → Gains quiet said line
+  pub silent : s ≡ status.Done → said ≡ quiet
 
--- What is written to an error stream: the answer's line, or that on a store's fault at one of these files, or on want of memory.
-abbrev pub IsTold : Status → Answer → (IsFile : List ℕ → Type 0) → (old new : Outside) → (before after : Poured) → Type 0
-IsTold Done a IsFile old new before after = after.bytes ≡ before.bytes
-IsTold Refused a IsFile old new before after = Gains before after a.error
-IsTold Words a IsFile old new before after = Gains before after a.error
-IsTold Store a IsFile old new before after = IsEither (HasMissed old new × Gains before after a.error) (HasFailed old new × TellsFault IsFile before after)
-IsTold NoMemory a IsFile old new before after = Gains before after out_of_memory
-IsTold Sink a IsFile old new before after = ⊥
+-- Status, files and output are the answer's.
+pub record IsAnswer (s : Status) (walk : Walk) (old new : Outside) (before after : Poured) : Type 0 where
+  pub status : s ≡ (answer walk old.files).status
+  pub files : new.files ≡ saved (answer walk old.files).saves old.files
+  pub output : IsTrue before.told → after.bytes ≡ before.bytes ++ (answer walk old.files).output
+
+-- Where no fault of the store or of the output rose, they are, or memory was wanted.
+abbrev pub IsComplete : Status → (walk : Walk) → (old new : Outside) → (before after : Poured) → Type 0
+IsComplete s walk old new before after =
+    IsTrue old.told → (Rose old.faults new.faults → ⊥) → (Rose before.faults after.faults → ⊥) → IsEither (s ≡ status.NoMemory) (IsAnswer s walk old new before after)

@@ -1,32 +1,42 @@
 -- What the tool writes to its error stream.
-use Rattle.std.specs.Prelude.{ℕ, List, ◌++◌, codes}
+use Rattle.std.specs.Prelude.{ℕ, List, [], ◌∷◌, ◌++◌, codes}
 use Rattle.std.specs.Fmt.{decimal}
 use Rattle.line_text.specs.Lines.{ended}
 
--- the usage of the commands that are built
-unfoldable pub usage : List ℕ
-usage = ended (codes "usage: gridtool split IN OUT P Q MB NB") ++ ended (codes "       gridtool join PREFIX OUT")
+-- texts one after the other
+abbrev pub joined : List (List ℕ) → List ℕ
+joined [] = []
+joined (text ∷ more) = text ++ joined more
 
 unfoldable pub tool_name : List ℕ
 tool_name = codes "gridtool: "
 
--- what stands behind the name of a file that isn't held, or that the store failed at
-unfoldable pub missing : List ℕ
-missing = ended (codes ": missing")
+-- a line of the tool: its name, where something is, and what
+abbrev pub line : (place text : List (List ℕ)) → List ℕ
+line place text = tool_name ++ (joined place ++ ended (joined text))
 
-unfoldable pub store_fault : List ℕ
-store_fault = ended (codes ": store fault")
+-- a file isn't held
+abbrev pub missing : (name : List ℕ) → List ℕ
+missing name = line (name ∷ []) (codes ": missing" ∷ [])
 
--- a line on a file
-abbrev pub about : (name text : List ℕ) → List ℕ
-about name text = tool_name ++ (name ++ text)
+-- the store failed at a file
+abbrev pub store_fault : (name : List ℕ) → List ℕ
+store_fault name = line (name ∷ []) (codes ": store fault" ∷ [])
 
-unfoldable pub too_many : List ℕ
-too_many = codes "gridtool: too many words: "
+-- a line of a file is refused
+abbrev pub at_line : (name : List ℕ) → (number : ℕ) → (text : List (List ℕ)) → List ℕ
+at_line name number text = line (name ∷ codes ": line " ∷ decimal number ∷ codes ": " ∷ []) text
 
 -- a job of so many words is above the limit
 abbrev pub too_many_words : ℕ → List ℕ
-too_many_words words = too_many ++ ended (decimal words)
+too_many_words words = line [] (codes "too many words: " ∷ decimal words ∷ [])
 
-unfoldable pub out_of_memory : List ℕ
-out_of_memory = ended (codes "gridtool: out of memory")
+abbrev pub out_of_memory : List ℕ
+out_of_memory = line [] (codes "out of memory" ∷ [])
+
+abbrev pub output_fault : List ℕ
+output_fault = line [] (codes "output fault" ∷ [])
+
+-- the usage of the commands that are built
+unfoldable pub usage : List ℕ
+usage = ended (codes "usage: gridtool split IN OUT P Q MB NB") ++ ended (codes "       gridtool join PREFIX OUT")

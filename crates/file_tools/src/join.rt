@@ -1,27 +1,24 @@
 //! The command `join`.
-ghost use Rattle.std.specs.Prelude.{◌≡◌, ◌+◌, ◌*◌, ◌^◌, ◌≤◌, ◌<◌, max, length, map, IsTrue, IfOk};
+ghost use Rattle.std.specs.Prelude.{◌≡◌, ◌+◌, ◌*◌, ◌^◌, ◌≤◌, max, length, map, IfOk, OnOk};
+ghost use Rattle.store_io.specs.Outside.{Poured};
 ghost use Rattle.piece_grammar.specs.Head.{IsHead, layout_of as spread_of, array_words as words_of_head};
 ghost use Rattle.piece_grammar.specs.Pieces.{words_of};
 ghost use Rattle.piece_file.specs.HeadView.{head_view};
 ghost use Rattle.piece_file.specs.PieceView.{piece_view};
 ghost use Rattle.piece_file.specs.Gathering.{AreTurns};
 ghost use Rattle.spread_cells.specs.LayoutView.{layout_view};
-ghost use Rattle.file_tools.specs.JoinAnswer.{array_of, layout_by, join_words, join_answer, IsJoinFile};
-ghost use Rattle.file_tools.specs.JoinSeen.{join_seen};
-ghost use Rattle.file_tools.specs.JoinRefusals.{gather_status, gather_line};
-ghost use Rattle.file_tools.specs.Outcome.{Gains, IsAnswered, IsCounted, IsOpened, IsTold};
+ghost use Rattle.file_tools.specs.JoinWalk.{array_of, layout_by, whole_walk, join_walk};
+ghost use Rattle.file_tools.specs.Outcome.{opened};
+ghost use Rattle.file_tools.specs.Troubles.{Follows};
 
-use crate::complaint::Complaint;
-use crate::join_words::Join;
-use crate::say::{tell_about, tell_out_of_memory, tell_too_many};
-use crate::say_fault::tell_piece;
-use crate::status::Status;
-use mm_text::write_matrix;
+use crate::reading::read_pieces;
+use crate::saving::save_matrix;
+use crate::trouble::Trouble;
 use pack_words::LocalArray;
-use piece_file::{Head, Piece, PieceErr, gather_pieces};
+use piece_file::{Head, Name, Piece};
 use spread_cells::{JoinedCells, Layout};
 use std::alloc::{AllocError, Global};
-use store_io::{Sink, Store};
+use store_io::Store;
 
 const LIMIT: u64 = 1 << 26;
 
@@ -95,74 +92,42 @@ fn arrays_of(alloc: Global, pieces: Vec<Piece>) -> Result<Vec<LocalArray>, Alloc
     Ok(arrays)
 }
 
-// Tells why the pieces weren't gathered.
-fn refuse<E: Sink>(err: &mut E, error: PieceErr) -> Status
-    ensures status { result ≡ gather_status error }
-    ensures gains { IsTrue (E.state err.old).told →
-        Gains (E.state err.old) (E.state err.new) (gather_line error) }
-{
-    match error {
-        PieceErr::Missing(name) => {
-            tell_about(err, name.as_str(), Complaint::Missing);
-            Status::Store
-        }
-        PieceErr::Failed(name) => {
-            tell_about(err, name.as_str(), Complaint::StoreFault);
-            Status::Store
-        }
-        PieceErr::Bad { name, line, fault } => {
-            tell_piece(err, name.as_str(), line, fault);
-            Status::Refused
-        }
-        PieceErr::NoMemory => {
-            tell_out_of_memory(err);
-            Status::NoMemory
-        }
-    }
-}
-
-/// Gathers the pieces, joins them, and writes the whole matrix. All memory is taken before the file is opened for writing.
-pub(crate) fn run_join<S: Store, E: Sink>(
+// Joins the pieces, and writes the whole matrix. All memory is taken before the file is opened for writing.
+#[tactic(auto, using(crate::proofs::GoingOn::wants_memory))]
+fn join_whole<S: Store>(
     alloc: Global,
-    join: &Join<'_>,
     store: &mut S,
-    err: &mut E,
-) -> Status
-    ensures answered { IsTrue (S.state store.old).told →
-        IsAnswered result (join_answer (join_seen join.now) (S.state store.old).files)
-        (S.state store.old) (S.state store.new) }
-    ensures in_table { result ≡ Status.Words → ⊥ }
-    ensures counted { IsCounted result (S.state store.old) (S.state store.new) }
-    ensures opened { IsOpened result (join_answer (join_seen join.now) (S.state store.old).files)
-        (S.state store.old) (S.state store.new) }
-    ensures told { IsTrue (S.state store.old).told → IsTrue (E.state err.old).told →
-        IsTold result (join_answer (join_seen join.now) (S.state store.old).files)
-        (IsJoinFile (join_seen join.now) (S.state store.old).files) (S.state store.old)
-        (S.state store.new) (E.state err.old) (E.state err.new) }
+    pieces: Vec<Piece>,
+    output: Name,
+) -> Result<(), Trouble>
+    requires { AreTurns (map piece_view pieces.items) }
+    ensures follows { (pour : Poured) →
+        Follows result (whole_walk output (map piece_view pieces.items)) (S.state store.old)
+        (S.state store.new) pour pour }
+    ensures opens { OnOk result ((S.state store.new).opens ≡ opened 1 (S.state store.old).opens) }
 {
-    let pieces = match gather_pieces(alloc, store, join.prefix) {
-        Ok(pieces) => pieces,
-        Err(error) => return refuse(err, error),
-    };
     let layout = layout_by_first(&pieces);
     let words = pieces_words(&pieces) + whole_words(&layout);
     if words > LIMIT {
-        tell_too_many(err, words);
-        return Status::Refused;
+        return Err(Trouble::TooMany(words));
     }
-    let Ok(arrays) = arrays_of(alloc, pieces) else {
-        tell_out_of_memory(err);
-        return Status::NoMemory;
-    };
-    let Ok(cells) = JoinedCells::new(alloc, layout, &arrays) else {
-        tell_out_of_memory(err);
-        return Status::NoMemory;
-    };
-    match write_matrix(store, join.output, &cells) {
-        Ok(()) => Status::Done,
-        Err(_) => {
-            tell_about(err, join.output, Complaint::StoreFault);
-            Status::Store
-        }
-    }
+    let arrays = arrays_of(alloc, pieces)?;
+    let cells = JoinedCells::new(alloc, layout, &arrays)?;
+    save_matrix(store, output, &cells)
+}
+
+/// Gathers the pieces, joins them, and writes the whole matrix to the file `output`.
+#[tactic(auto, using(crate::proofs::JoinLaws::join_goes_on, crate::proofs::JoinLaws::join_stops))]
+pub(crate) fn run_join<S: Store>(
+    alloc: Global,
+    store: &mut S,
+    prefix: &str,
+    output: Name,
+) -> Result<(), Trouble>
+    ensures follows { (pour : Poured) →
+        Follows result (join_walk prefix.now output) (S.state store.old) (S.state store.new) pour pour }
+    ensures opens { OnOk result ((S.state store.new).opens ≡ opened 1 (S.state store.old).opens) }
+{
+    let pieces = read_pieces(alloc, store, prefix)?;
+    join_whole(alloc, store, pieces, output)
 }

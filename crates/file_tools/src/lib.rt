@@ -1,17 +1,18 @@
 //! The commands of gridtool on files: the top call.
 #![tactic(auto)]
 
-mod complaint;
 mod job;
 mod join;
-mod join_words;
-mod say;
-mod say_fault;
+mod line;
+mod reading;
+mod saving;
 mod split;
-mod split_words;
 mod status;
-mod task;
+mod target;
+mod tell;
 mod tool;
+mod trouble;
 
 pub use status::Status;
+pub use tell::no_memory;
 pub use tool::plain_tool;

@@ -5,6 +5,7 @@ mod abs_max;
 mod abs_min;
 mod combine;
 mod held;
+mod meanings;
 mod sum_mod;
 mod ties;
 
@@ -12,4 +13,5 @@ pub use abs_max::AbsMax;
 pub use abs_min::AbsMin;
 pub use combine::Combine;
 pub use held::Held;
+pub use meanings::{fold_rows, greatest_is_fold, least_is_fold, sum_is_fold, told_apart};
 pub use sum_mod::SumMod;

@@ -1,4 +1,4 @@
-//! Tests of the stores, of matrix files and of piece files.
+//! Tests of matrix files and of piece files.
 #![tactic(auto)]
 
 #[cfg(test)]
@@ -7,7 +7,5 @@ mod drops;
 mod matrices;
 #[cfg(test)]
 mod pieces;
-#[cfg(test)]
-mod stores;
 #[cfg(test)]
 mod texts;

@@ -1,24 +1,34 @@
 //! The program: its words go to the top call, with the files of the system and its two streams.
 #![tactic(auto)]
 
-use file_tools::{Status, plain_tool};
+use file_tools::{Status, no_memory, plain_tool};
 use std::process::ExitCode;
 use std::{env, io};
 use store_io::{DirStore, StdSink};
 
+// The status of arguments that weren't read: without memory as the tool tells it, else some argument isn't UTF-8, and
+// nothing is said.
+fn unread<W: io::Write + Drop>(err: &mut StdSink<W>, error: &io::Error) -> Status {
+    match error.kind() {
+        io::ErrorKind::OutOfMemory => no_memory(err),
+        _ => Status::Words,
+    }
+}
+
 fn main(rt: HostRuntime) -> ExitCode {
     let alloc = rt.alloc();
-    let Ok(args) = env::args(&rt) else {
-        return ExitCode::from(Status::Words.code());
+    let mut err = StdSink::new(rt.stderr());
+    let args = match env::args(&rt) {
+        Ok(args) => args,
+        Err(error) => return ExitCode::from(unread(&mut err, &error).code()),
     };
     let Ok(mut words) = args.collect::<Vec<String>>(alloc) else {
-        return ExitCode::from(Status::NoMemory.code());
+        return ExitCode::from(no_memory(&mut err).code());
     };
     if !words.is_empty() {
         let _program = words.remove(0);
     }
     let mut out = StdSink::new(rt.stdout());
-    let mut err = StdSink::new(rt.stderr());
     let mut store = DirStore::new(rt);
     let status = plain_tool(alloc, &words, &mut store, &mut out, &mut err);
     ExitCode::from(status.code())

@@ -1,7 +1,10 @@
 -- Integers, by the numbers of their digits up to a cap.
-use Rattle.std.proofs.Common.{◌≡◌, ℕ, zero, suc, ◌+◌, ◌-◌, ◌^◌, ◌<◌, ◌≤◌, min, ℤ, pos, negsuc, neg_ℤ, Option, Some, None, refl, sym, ap, ◌∙◌, arith}
+use Rattle.std.proofs.Common.{◌≡◌, ℕ, zero, suc, ◌+◌, ◌^◌, ◌<◌, ◌≤◌, min, ℤ, pos, negsuc, neg_ℤ, Option, Some, None, refl, ap, arith}
 use Rattle.std.specs.Option.{option_map}
-use Rattle.line_text.specs.Integers.{IsPast, IsOut}
+use Rattle.std.proofs.lemmas.Bool.{le-ltb, lt-ltb}
+use Rattle.std.specs.Prelude.{FitsSigned}
+use Rattle.std.specs.Int.{w32}
+use Rattle.line_text.specs.Integers.{IsPast, IsOut, in_32_bits}
 
 capped : (cap n m : ℕ) → Some m ≡ option_map (λ x. min x cap) (Some n) → m ≡ min n cap
 capped cap n m e = cc
@@ -31,3 +34,21 @@ negative_fits (Some n) m e small = let c : m ≡ min n (2 ^ 31 + 1) = capped (2 
 pub negative_past : (o : Option ℕ) (m : ℕ) → Some m ≡ option_map (λ x. min x (2 ^ 31 + 1)) o → 2 ^ 31 < m → IsOut (option_map (λ n. neg_ℤ (pos n)) o)
 negative_past None m e large = absurd cc
 negative_past (Some n) m e large = let c : m ≡ min n (2 ^ 31 + 1) = capped (2 ^ 31 + 1) n m e in record { value = neg_ℤ (pos n); is = refl; past = negatives n (omega arith) }
+
+-- what is no integer, one of 32 bits, and another
+pub without_integer : (z : Option ℤ) → z ≡ None → None ≡ in_32_bits z
+without_integer z e = rw e refl
+
+fitting : (v : ℤ) → FitsSigned w32 v → Some v ≡ in_32_bits (Some v)
+fitting (pos n) fits = rw (lt-ltb n (2 ^ 31) (omega arith)) refl
+fitting (negsuc n) fits = rw (lt-ltb n (2 ^ 31) (omega arith)) refl
+
+pub in_range : (z : Option ℤ) (v : ℤ) → FitsSigned w32 v → z ≡ Some v → Some v ≡ in_32_bits z
+in_range z v fits e = rw e (fitting v fits)
+
+past : (v : ℤ) → IsPast v → None ≡ in_32_bits (Some v)
+past (pos n) h = rw (le-ltb n (2 ^ 31) h) refl
+past (negsuc n) h = rw (le-ltb n (2 ^ 31) h) refl
+
+pub out_of_range : (z : Option ℤ) → IsOut z → None ≡ in_32_bits z
+out_of_range z o = rw o.is (past o.value o.past)

@@ -5,3 +5,8 @@ pub mod NumberLaws
 pub mod NumberSteps
 pub mod IntegerSteps
 pub mod WholeLineLaws
+pub mod LineSteps
+pub mod FormatSteps
+pub mod FormatReadings
+pub mod FormatLaws
+pub mod FormatTexts

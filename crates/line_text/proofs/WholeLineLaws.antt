@@ -1,8 +1,9 @@
 -- Lines with their ends.
-use Rattle.std.proofs.Common.{◌≡◌, ◌≢◌, ℕ, Bool, true, false, cond, List, [], ◌∷◌, ◌++◌, map, refl, ap, ◌∙◌, append_assoc, nat_eq}
+use Rattle.std.proofs.Common.{◌≡◌, ℕ, Bool, true, false, cond, List, [], ◌∷◌, ◌++◌, map, refl, ap, ◌∙◌, append_assoc, nat_eq}
 use Rattle.std.specs.List.{AllByRecursion, flat_map}
 use Rattle.std.proofs.lemmas.Bool.{ne_eqb}
 use Rattle.line_text.specs.Lines.{before_first_line, split_lines, whole_lines, without_end, ended, text_of_lines, IsLine}
+pub use Rattle.line_text.specs.Lines.{HasNoEnd}
 
 in_front : (b : ℕ) (lines : List (List ℕ)) → flat_map (λ line. line) (before_first_line b lines) ≡ b ∷ flat_map (λ line. line) lines
 in_front b [] = refl
@@ -34,10 +35,6 @@ pub cut_whole_lines : (bytes : List ℕ) → map without_end (whole_lines bytes)
 unfolding whole_lines split_lines
 cut_whole_lines [] = refl
 cut_whole_lines (b ∷ bs) = cut_case b bs _ refl (cut_whole_lines bs)
-
--- no line end
-abbrev pub HasNoEnd : List ℕ → Type 0
-HasNoEnd bs = AllByRecursion (λ b. b ≢ 10) bs
 
 -- the first run of bytes up to a line end, and the lines behind it
 pub whole_run : (run rest : List ℕ) → HasNoEnd run → whole_lines (run ++ 10 ∷ rest) ≡ ended run ∷ whole_lines rest

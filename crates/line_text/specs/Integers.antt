@@ -1,5 +1,5 @@
 -- Integers in the range of 32 bits, and others.
-use Rattle.std.specs.Prelude.{◌≡◌, ◌^◌, ◌≤◌, ℤ, pos, negsuc, Option, Some, None}
+use Rattle.std.specs.Prelude.{◌≡◌, ◌^◌, ◌≤◌, ℤ, pos, negsuc, Option, Some, None, nat_lt, if◌then◌else◌}
 use Rattle.line_text.specs.declared.integers.Integer.{Integer}
 use Rattle.line_text.specs.declared.integers.Integer.TheVariants.{Fits, OutOfRange}
 
@@ -19,3 +19,9 @@ abbrev pub IsFound : Option Integer → Option ℤ → Type 0
 IsFound None z = z ≡ None
 IsFound (Some (Fits v)) z = z ≡ Some v
 IsFound (Some OutOfRange) z = IsOut z
+
+-- an integer of 32 bits, if it is one
+abbrev pub in_32_bits : Option ℤ → Option ℤ
+in_32_bits None = None
+in_32_bits (Some (pos n)) = if nat_lt n (2 ^ 31) then Some (pos n) else None
+in_32_bits (Some (negsuc n)) = if nat_lt n (2 ^ 31) then Some (negsuc n) else None

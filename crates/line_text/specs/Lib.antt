@@ -1,4 +1,9 @@
 pub mod Lines
 pub mod Words
+pub mod TextBytes
 pub mod Numbers
 pub mod Integers
+pub mod Formats
+pub mod FaultTables
+pub mod FormatMeaning
+pub mod FormatLaws

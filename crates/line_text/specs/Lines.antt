@@ -43,3 +43,7 @@ text_of_lines lines = flat_map ended lines
 -- what can stand as a line of a text that is written: no line end and no carriage return in it
 abbrev pub IsLine : List ℕ → Type 0
 IsLine line = AllByRecursion (λ b. (b ≢ 10) × (b ≢ 13)) line
+
+-- no line end among these bytes
+abbrev pub HasNoEnd : List ℕ → Type 0
+HasNoEnd bytes = AllByRecursion (λ b. b ≢ 10) bytes

@@ -2,7 +2,7 @@
 ghost use Rattle.std.specs.Prelude.{◌≡◌, ◌≤◌, ◌^◌, ℕ, pos, neg_ℤ};
 ghost use Rattle.std.specs.Option.{option_map};
 ghost use Rattle.line_text.specs.Numbers.{digits_number, signed_number};
-ghost use Rattle.line_text.specs.Integers.{IsFound};
+ghost use Rattle.line_text.specs.Integers.{IsFound, in_32_bits};
 
 use crate::numbers::number_up_to;
 
@@ -59,5 +59,17 @@ pub fn read_integer(word: &[u8]) -> Option<Integer>
             _ => positive(word),
         },
         [] => None,
+    }
+}
+
+/// The integer that a word writes, where it has 32 bits.
+#[tactic(auto, using(crate::proofs::IntegerSteps::without_integer, crate::proofs::IntegerSteps::in_range, crate::proofs::IntegerSteps::out_of_range))]
+pub fn read_i32(word: &[u8]) -> Option<i32>
+    ensures { result ≡ in_32_bits (signed_number word.now) }
+{
+    match read_integer(word) {
+        Some(Integer::Fits(number)) => Some(number),
+        Some(Integer::OutOfRange) => None,
+        None => None,
     }
 }

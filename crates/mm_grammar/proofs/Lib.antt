@@ -1,11 +1,11 @@
 pub mod Rows
 pub mod Steps
-pub mod Soundness
-pub mod Completeness
+pub mod LineKinds
+pub mod WholeLines
+pub mod GoingOn
 pub mod Laws
 pub mod Written
 pub mod PlainLaws
-pub mod FirstBad
 pub mod Limits
 pub mod Streaming
 pub mod Table

@@ -6,7 +6,7 @@ use Rattle.std.proofs.lemmas.Bool.{eqb-true, leb-true, ltb-true, lt-ltb, and_par
 use Rattle.std.proofs.lemmas.List.{length-append}
 use Rattle.line_text.specs.Words.{words}
 use Rattle.line_text.specs.Numbers.{unsigned_number, signed_number}
-use Rattle.mm_grammar.specs.Width.{Width, is_in_range, has_negative}
+use Rattle.mm_grammar.specs.Width.{Width, width32, width64, bound, most, is_in_range, has_negative}
 use Rattle.mm_grammar.specs.Matrix.{Matrix, IsMatrix}
 use Rattle.mm_grammar.specs.Faults.{Fault, Size, Range}
 use Rattle.mm_grammar.specs.FileLines.{Line}
@@ -14,6 +14,11 @@ use Rattle.mm_grammar.specs.Symmetry.{Symmetry, General, Symmetric, SkewSymmetri
 use Rattle.mm_grammar.specs.Expansion.{below, by_columns, stored_at, symmetric_element, skew_element, expanded}
 use Rattle.mm_grammar.specs.Parts.{Header, wanted, is_square, is_size, header_of, size_words, may_store, ranged, value_words}
 use Rattle.mm_grammar.specs.MatrixText.{HoldsValues, IsAccepted, matrix_of}
+
+-- each width has the value 0
+pub some_value : (width : Width) → 0 < bound width
+some_value width32 = omega arith
+some_value width64 = omega arith
 
 abbrev taken : {A : Type 0} → A → Result A Fault
 taken x = Ok x
@@ -97,30 +102,30 @@ at_place P d (v ∷ vs) (suc k) other all = at_place P d vs k other all.1
 -- a value with a negative, and this negative
 has_range : (width : Width) (v : ℤ) → has_negative width v ≡ true → is_in_range width v ≡ true
 has_range width (pos n) e = e
-has_range width (negsuc n) e = let h : n + 1 < width.bound = ltb-true (n + 1) width.bound e in lt-ltb n width.bound (omega arith)
+has_range width (negsuc n) e = let h : n + 1 < bound width = ltb-true (n + 1) (bound width) e in lt-ltb n (bound width) (omega arith)
 
 negative_range : (width : Width) (v : ℤ) → has_negative width v ≡ true → is_in_range width (neg_ℤ v) ≡ true
 negative_range width (pos zero) e = e
-negative_range width (pos (suc n)) e = let h : suc n < width.bound = ltb-true (suc n) width.bound e in lt-ltb n width.bound (omega arith)
-negative_range width (negsuc n) e = let h : n + 1 < width.bound = ltb-true (n + 1) width.bound e in lt-ltb (suc n) width.bound (omega arith)
+negative_range width (pos (suc n)) e = let h : suc n < bound width = ltb-true (suc n) (bound width) e in lt-ltb n (bound width) (omega arith)
+negative_range width (negsuc n) e = let h : n + 1 < bound width = ltb-true (n + 1) (bound width) e in lt-ltb (suc n) (bound width) (omega arith)
 
 either_way : (P : ℤ → Type 0) (b : Bool) (x y : ℤ) → P x → P y → P (cond b x y)
 either_way P true x y p q = p
 either_way P false x y p q = q
 
-element_fits : (width : Width) (n : ℕ) (stored : List ℤ) → 0 < width.bound → AllByRecursion (λ v. is_in_range width v ≡ true) stored → (i j : ℕ) → is_in_range width (symmetric_element n stored i j) ≡ true
+element_fits : (width : Width) (n : ℕ) (stored : List ℤ) → 0 < bound width → AllByRecursion (λ v. is_in_range width v ≡ true) stored → (i j : ℕ) → is_in_range width (symmetric_element n stored i j) ≡ true
 element_fits width n stored some all i j =
     either_way (λ v. is_in_range width v ≡ true) (nat_le j i) (stored_at 0 n stored i j) (stored_at 0 n stored j i)
-    (at_place (λ v. is_in_range width v ≡ true) (pos 0) stored _ (lt-ltb 0 width.bound some) all) (at_place (λ v. is_in_range width v ≡ true) (pos 0) stored _ (lt-ltb 0 width.bound some) all)
+    (at_place (λ v. is_in_range width v ≡ true) (pos 0) stored _ (lt-ltb 0 (bound width) some) all) (at_place (λ v. is_in_range width v ≡ true) (pos 0) stored _ (lt-ltb 0 (bound width) some) all)
 
-skew_fits : (width : Width) (n : ℕ) (stored : List ℤ) → 0 < width.bound → AllByRecursion (λ v. has_negative width v ≡ true) stored → (i j : ℕ) → is_in_range width (skew_element n stored i j) ≡ true
+skew_fits : (width : Width) (n : ℕ) (stored : List ℤ) → 0 < bound width → AllByRecursion (λ v. has_negative width v ≡ true) stored → (i j : ℕ) → is_in_range width (skew_element n stored i j) ≡ true
 skew_fits width n stored some all i j =
-    let zero_fits : has_negative width (pos 0) ≡ true = lt-ltb 0 width.bound some in
+    let zero_fits : has_negative width (pos 0) ≡ true = lt-ltb 0 (bound width) some in
     let one : has_negative width (stored_at 1 n stored i j) ≡ true = at_place (λ v. has_negative width v ≡ true) (pos 0) stored _ zero_fits all in
     let other : has_negative width (stored_at 1 n stored j i) ≡ true = at_place (λ v. has_negative width v ≡ true) (pos 0) stored _ zero_fits all in
     either_way (λ v. is_in_range width v ≡ true) (nat_lt j i) (stored_at 1 n stored i j) (cond (nat_eq i j) (pos 0) (neg_ℤ (stored_at 1 n stored j i)))
     (has_range width (stored_at 1 n stored i j) one)
-    (either_way (λ v. is_in_range width v ≡ true) (nat_eq i j) (pos 0) (neg_ℤ (stored_at 1 n stored j i)) (lt-ltb 0 width.bound some) (negative_range width (stored_at 1 n stored j i) other))
+    (either_way (λ v. is_in_range width v ≡ true) (nat_eq i j) (pos 0) (neg_ℤ (stored_at 1 n stored j i)) (lt-ltb 0 (bound width) some) (negative_range width (stored_at 1 n stored j i) other))
 
 -- the elements of stored values
 expanded_long : (width : Width) (kind : Symmetry) (rows columns : ℕ) (stored : List ℤ) → is_square kind rows columns ≡ true → length stored ≡ wanted (record { symmetry = kind; rows = rows; columns = columns }) → length (expanded kind columns stored) ≡ rows * columns
@@ -129,7 +134,7 @@ expanded_long width General rows columns stored square count = count
 expanded_long width Symmetric rows columns stored square count = by_columns_long columns columns (symmetric_element columns stored) ∙ ap (λ (n : ℕ). n * columns) (sym (eqb-true rows columns square))
 expanded_long width SkewSymmetric rows columns stored square count = by_columns_long columns columns (skew_element columns stored) ∙ ap (λ (n : ℕ). n * columns) (sym (eqb-true rows columns square))
 
-expanded_fit : (width : Width) (kind : Symmetry) (columns : ℕ) (stored : List ℤ) → 0 < width.bound → AllByRecursion (λ v. may_store width kind v ≡ true) stored → AllByRecursion (λ v. is_in_range width v ≡ true) (expanded kind columns stored)
+expanded_fit : (width : Width) (kind : Symmetry) (columns : ℕ) (stored : List ℤ) → 0 < bound width → AllByRecursion (λ v. may_store width kind v ≡ true) stored → AllByRecursion (λ v. is_in_range width v ≡ true) (expanded kind columns stored)
 unfolding expanded
 expanded_fit width General columns stored some all = all
 expanded_fit width Symmetric columns stored some all =
@@ -137,10 +142,10 @@ expanded_fit width Symmetric columns stored some all =
 expanded_fit width SkewSymmetric columns stored some all =
     all_columns (λ v. is_in_range width v ≡ true) (skew_element columns stored) (below columns) (below columns) (skew_fits width columns stored some all)
 
-matrix_fits : (width : Width) (header : Header) (stored : List ℤ) → 0 < width.bound → is_size width header ≡ true → AllByRecursion (λ v. may_store width header.symmetry v ≡ true) stored → length stored ≡ wanted header → IsMatrix width (matrix_of header stored)
+matrix_fits : (width : Width) (header : Header) (stored : List ℤ) → 0 < bound width → is_size width header ≡ true → AllByRecursion (λ v. may_store width header.symmetry v ≡ true) stored → length stored ≡ wanted header → IsMatrix width (matrix_of header stored)
 matrix_fits width header stored some size all count =
     let a = and_parts _ (is_square header.symmetry header.rows header.columns) size in
-    let b = and_parts _ (nat_le (header.rows * header.columns) width.most) a.0 in
+    let b = and_parts _ (nat_le (header.rows * header.columns) (most width)) a.0 in
     let c = and_parts (nat_le header.rows (2 ^ 24)) (nat_le header.columns (2 ^ 24)) b.0 in
     record {
       rows_fit = leb-true _ _ c.0;
@@ -151,9 +156,9 @@ matrix_fits width header stored some size all count =
     }
 
 -- A matrix that a text gives is within the limits of files.
-pub accepted_fits : (width : Width) (lines : List Line) (m : Matrix) → 0 < width.bound → IsAccepted width lines m → IsMatrix width m
-accepted_fits width lines m some a =
+pub accepted_fits : (width : Width) (lines : List Line) (m : Matrix) → IsAccepted width lines m → IsMatrix width m
+accepted_fits width lines m a =
     subst (λ (n : Matrix). IsMatrix width n) (sym a.matrix)
-    (matrix_fits width a.header a.stored some
+    (matrix_fits width a.header a.stored (some_value width)
     (size_passed width a.header.symmetry (words a.parts.opens.size.text) a.header a.parts.opens.is_size_line.gives)
     (stored_fit width a.header a.parts.body a.stored a.parts.holds) a.parts.count)

@@ -12,7 +12,7 @@ use Rattle.line_text.specs.Words.{words, parts, not_empty}
 use Rattle.line_text.proofs.WordLaws.{words_one, words_more}
 use Rattle.line_text.proofs.NumberLaws.{unsigned_number_decimal, signed_number_decimal}
 use Rattle.line_text.proofs.WholeLineLaws.{whole_written}
-use Rattle.mm_grammar.specs.Width.{Width, width32, width64, is_in_range}
+use Rattle.mm_grammar.specs.Width.{Width, width32, width64, bound, most, is_in_range}
 use Rattle.mm_grammar.specs.Matrix.{Matrix, IsMatrix}
 use Rattle.mm_grammar.specs.FileLines.{Line, file_lines, lines_behind, is_text_byte}
 use Rattle.mm_grammar.specs.Symmetry.{General, symmetry_named}
@@ -27,7 +27,7 @@ abbrev pub general : Matrix → Header
 general m = record { symmetry = General; rows = m.rows; columns = m.columns }
 
 -- a value in range is no larger than the width
-pub mag_in_range : (width : Width) (z : ℤ) → is_in_range width z ≡ true → mag z < width.bound
+pub mag_in_range : (width : Width) (z : ℤ) → is_in_range width z ≡ true → mag z < bound width
 mag_in_range width (pos n) is = ltb-true _ _ is
 mag_in_range width (negsuc n) is = ltb-true _ _ is
 
@@ -48,7 +48,7 @@ no_percent : (ds more : List ℕ) → AreDigits ds → 0 < length ds → is_comm
 no_percent [] more all some = absurd (omega arith)
 no_percent (d ∷ ds) more all some = let low : 48 ≤ d = all.0.0 in ne_eqb d 37 (λ e. omega (arith, e))
 
-size_of : (width : Width) (m n : ℕ) → m ≤ 2 ^ 24 → n ≤ 2 ^ 24 → m * n ≤ width.most → size_words width General (words (size_line m n)) ≡ Ok (record { symmetry = General; rows = m; columns = n })
+size_of : (width : Width) (m n : ℕ) → m ≤ 2 ^ 24 → n ≤ 2 ^ 24 → m * n ≤ most width → size_words width General (words (size_line m n)) ≡ Ok (record { symmetry = General; rows = m; columns = n })
 unfolding size_words
 size_of width m n a b area =
     let split : words (size_line m n) ≡ decimal m ∷ decimal n ∷ [] = words_more (decimal m) (decimal n) (decimal_word m (omega arith)) ∙ ap (λ (ws : List (List ℕ)). decimal m ∷ ws) (words_one (decimal n) (decimal_word n (omega arith))) in
@@ -61,11 +61,11 @@ value_of width z fits is = rw (words_one (signed_decimal z) (signed_word z fits)
 pub text_length : (line : List ℕ) (lines : List (List ℕ)) → length (text_of_lines (line ∷ lines)) ≡ length (ended line) + length (text_of_lines lines)
 text_length line lines = length-append (ended line) (text_of_lines lines)
 
-values_hold : (width : Width) (m : Matrix) (at : ℕ) (vs : List ℤ) → width.bound ≤ 2 ^ 63 → AllByRecursion (λ v. is_in_range width v ≡ true) vs → at + length (text_of_lines (map signed_decimal vs)) ≤ 2 ^ 30
+values_hold : (width : Width) (m : Matrix) (at : ℕ) (vs : List ℤ) → bound width ≤ 2 ^ 63 → AllByRecursion (λ v. is_in_range width v ≡ true) vs → at + length (text_of_lines (map signed_decimal vs)) ≤ 2 ^ 30
     → HoldsValues width (general m) (placed at (map signed_decimal vs)) vs
-values_hold width m at [] bound all upto = refl
-values_hold width m at (v ∷ vs) bound all upto =
-    let less : mag v < width.bound = mag_in_range width v all.0 in
+values_hold width m at [] within all upto = refl
+values_hold width m at (v ∷ vs) within all upto =
+    let less : mag v < bound width = mag_in_range width v all.0 in
     let fits : mag v < 2 ^ 63 = omega arith in
     let long : length (text_of_lines (map signed_decimal (v ∷ vs))) ≡ length (ended (signed_decimal v)) + length (text_of_lines (map signed_decimal vs)) = text_length (signed_decimal v) (map signed_decimal vs) in
     inr (
@@ -73,14 +73,14 @@ values_hold width m at (v ∷ vs) bound all upto =
       vs,
       refl,
       record { fits = written_fits (signed_decimal v) (at + length (ended (signed_decimal v))) (signed_text v fits) (let s : length (signed_decimal v) ≤ 20 = value_short v fits in omega arith) (omega arith); gives = value_of width v fits all.0 },
-      values_hold width m (at + length (ended (signed_decimal v))) vs bound all.1 (omega arith),
+      values_hold width m (at + length (ended (signed_decimal v))) vs within all.1 (omega arith),
     )
 
-values_lines : (width : Width) (vs : List ℤ) → width.bound ≤ 2 ^ 63 → AllByRecursion (λ v. is_in_range width v ≡ true) vs → AllByRecursion IsLine (map signed_decimal vs)
-values_lines width [] bound all = tt
-values_lines width (v ∷ vs) bound all =
-    let less : mag v < width.bound = mag_in_range width v all.0 in
-    (text_line (signed_decimal v) (signed_text v (omega arith)), values_lines width vs bound all.1)
+values_lines : (width : Width) (vs : List ℤ) → bound width ≤ 2 ^ 63 → AllByRecursion (λ v. is_in_range width v ≡ true) vs → AllByRecursion IsLine (map signed_decimal vs)
+values_lines width [] within all = tt
+values_lines width (v ∷ vs) within all =
+    let less : mag v < bound width = mag_in_range width v all.0 in
+    (text_line (signed_decimal v) (signed_text v (omega arith)), values_lines width vs within all.1)
 
 pub banner_text : list_all is_text_byte banner_line ≡ true
 unfolding banner_line
@@ -94,11 +94,11 @@ banner_says : banner_of banner_line ≡ Ok General
 unfolding banner_line banner_words symmetry_named parts not_empty
 banner_says = refl
 
-plain_lines : (width : Width) (m : Matrix) → width.bound ≤ 2 ^ 63 → IsMatrix width m → file_lines (plain_text m) ≡ placed 0 (banner_line ∷ cell_lines m)
+plain_lines : (width : Width) (m : Matrix) → bound width ≤ 2 ^ 63 → IsMatrix width m → file_lines (plain_text m) ≡ placed 0 (banner_line ∷ cell_lines m)
 unfolding plain_text
-plain_lines width m bound is =
+plain_lines width m within is =
     let all : AllByRecursion IsLine (banner_line ∷ cell_lines m) =
-    (text_line banner_line banner_text, (text_line (size_line m.rows m.columns) (size_text m.rows m.columns is.rows_fit is.columns_fit), values_lines width m.values bound is.each)) in
+    (text_line banner_line banner_text, (text_line (size_line m.rows m.columns) (size_text m.rows m.columns is.rows_fit is.columns_fit), values_lines width m.values within is.each)) in
     ap (lines_behind 0) (whole_written (banner_line ∷ cell_lines m) all) ∙ lines_placed 0 (banner_line ∷ cell_lines m) all
 
 abbrev banner_at : Line
@@ -107,10 +107,10 @@ banner_at = record { text = banner_line; upto = 0 + length (ended banner_line) }
 abbrev size_at : Matrix → Line
 size_at m = record { text = size_line m.rows m.columns; upto = 0 + length (ended banner_line) + length (ended (size_line m.rows m.columns)) }
 
--- The plain text of a matrix that is no longer than a file may be is a text of this matrix.
-pub plain_accepted : (width : Width) (m : Matrix) → width.bound ≤ 2 ^ 63 → IsMatrix width m → length (plain_text m) ≤ 2 ^ 30 → IsMatrixText width (plain_text m) m
+-- a plain text that is no longer than a file may be
+accepted_within : (width : Width) (m : Matrix) → bound width ≤ 2 ^ 63 → IsMatrix width m → length (plain_text m) ≤ 2 ^ 30 → IsMatrixText width (plain_text m) m
 unfolding plain_text expanded
-plain_accepted width m bound is front =
+accepted_within width m within is front =
     let a : length (plain_text m) ≡ length (ended banner_line) + length (text_of_lines (cell_lines m)) = text_length banner_line (cell_lines m) in
     let b : length (text_of_lines (cell_lines m)) ≡ length (ended (size_line m.rows m.columns)) + length (text_of_lines (map signed_decimal m.values)) = text_length (size_line m.rows m.columns) (map signed_decimal m.values) in
     let short : length (size_line m.rows m.columns) ≤ 17 = size_short m.rows m.columns is.rows_fit is.columns_fit in
@@ -126,7 +126,7 @@ plain_accepted width m bound is front =
           banner = banner_at;
           between = [];
           size = size_at m;
-          whole = plain_lines width m bound is;
+          whole = plain_lines width m within is;
           is_banner = record { fits = written_fits banner_line (0 + length (ended banner_line)) banner_text (omega arith) (omega arith); names = banner_says };
           are_between = tt;
           is_size_line = record {
@@ -135,46 +135,44 @@ plain_accepted width m bound is front =
             gives = size_of width m.rows m.columns is.rows_fit is.columns_fit is.area_fits;
           };
         };
-        holds = values_hold width m (0 + length (ended banner_line) + length (ended (size_line m.rows m.columns))) m.values bound is.each (omega arith);
+        holds = values_hold width m (0 + length (ended banner_line) + length (ended (size_line m.rows m.columns))) m.values within is.each (omega arith);
         count = is.count;
       };
       matrix = refl;
     }
 
 -- how long the values' lines are, each of at most k + 1 bytes and its end
-pub values_short : (width : Width) (k : ℕ) (vs : List ℤ) → width.bound < 10 ^ k → width.bound ≤ 2 ^ 63 → AllByRecursion (λ v. is_in_range width v ≡ true) vs → length (text_of_lines (map signed_decimal vs)) ≤ length vs * (k + 2)
-values_short width k [] small bound all = omega arith
-values_short width k (v ∷ vs) small bound all =
-    let less : mag v < width.bound = mag_in_range width v all.0 in
+pub values_short : (width : Width) (k : ℕ) (vs : List ℤ) → bound width < 10 ^ k → bound width ≤ 2 ^ 63 → AllByRecursion (λ v. is_in_range width v ≡ true) vs → length (text_of_lines (map signed_decimal vs)) ≤ length vs * (k + 2)
+values_short width k [] small within all = omega arith
+values_short width k (v ∷ vs) small within all =
+    let less : mag v < bound width = mag_in_range width v all.0 in
     let one : length (signed_decimal v) ≤ k + 1 = length_signed_le k v (omega arith) (omega arith) in
     let long : length (text_of_lines (map signed_decimal (v ∷ vs))) ≡ length (ended (signed_decimal v)) + length (text_of_lines (map signed_decimal vs)) = text_length (signed_decimal v) (map signed_decimal vs) in
     let end : length (ended (signed_decimal v)) ≡ length (signed_decimal v) + 1 = length-append (signed_decimal v) (10 ∷ []) in
-    let more : length (text_of_lines (map signed_decimal vs)) ≤ length vs * (k + 2) = values_short width k vs small bound all.1 in
+    let more : length (text_of_lines (map signed_decimal vs)) ≤ length vs * (k + 2) = values_short width k vs small within all.1 in
     omega arith
 
-plain_short : (width : Width) (k : ℕ) (m : Matrix) → width.bound < 10 ^ k → width.bound ≤ 2 ^ 63 → IsMatrix width m → length (plain_text m) ≤ 62 + length m.values * (k + 2)
+plain_short : (width : Width) (k : ℕ) (m : Matrix) → bound width < 10 ^ k → bound width ≤ 2 ^ 63 → IsMatrix width m → length (plain_text m) ≤ 62 + length m.values * (k + 2)
 unfolding plain_text
-plain_short width k m small bound is =
+plain_short width k m small within is =
     let a : length (plain_text m) ≡ length (ended banner_line) + length (text_of_lines (cell_lines m)) = text_length banner_line (cell_lines m) in
     let b : length (text_of_lines (cell_lines m)) ≡ length (ended (size_line m.rows m.columns)) + length (text_of_lines (map signed_decimal m.values)) = text_length (size_line m.rows m.columns) (map signed_decimal m.values) in
     let short : length (size_line m.rows m.columns) ≤ 17 = size_short m.rows m.columns is.rows_fit is.columns_fit in
     let c : length (ended banner_line) ≡ length banner_line + 1 = length-append banner_line (10 ∷ []) in
     let d : length (ended (size_line m.rows m.columns)) ≡ length (size_line m.rows m.columns) + 1 = length-append (size_line m.rows m.columns) (10 ∷ []) in
     let n : length banner_line ≡ 43 = banner_long in
-    let more : length (text_of_lines (map signed_decimal m.values)) ≤ length m.values * (k + 2) = values_short width k m.values small bound is.each in
+    let more : length (text_of_lines (map signed_decimal m.values)) ≤ length m.values * (k + 2) = values_short width k m.values small within is.each in
     omega arith
 
--- The plain text of a matrix of 32 bits is a text of this matrix, and so is that of one of 64 bits.
-pub plain_accepted32 : (m : Matrix) → IsMatrix width32 m → IsMatrixText width32 (plain_text m) m
-plain_accepted32 m is =
+-- The plain text of a matrix is a text of this matrix.
+pub plain_accepted : (width : Width) (m : Matrix) → IsMatrix width m → IsMatrixText width (plain_text m) m
+plain_accepted width32 m is =
     let area : m.rows * m.columns ≤ 2 ^ 26 = is.area_fits in
     let count : length m.values ≡ m.rows * m.columns = is.count in
     let short : length (plain_text m) ≤ 62 + length m.values * 12 = plain_short width32 10 m (omega arith) (omega arith) is in
-    plain_accepted width32 m (omega arith) is (omega arith)
-
-pub plain_accepted64 : (m : Matrix) → IsMatrix width64 m → IsMatrixText width64 (plain_text m) m
-plain_accepted64 m is =
+    accepted_within width32 m (omega arith) is (omega arith)
+plain_accepted width64 m is =
     let area : m.rows * m.columns ≤ 2 ^ 25 = is.area_fits in
     let count : length m.values ≡ m.rows * m.columns = is.count in
     let short : length (plain_text m) ≤ 62 + length m.values * 21 = plain_short width64 19 m (omega arith) (omega arith) is in
-    plain_accepted width64 m (omega arith) is (omega arith)
+    accepted_within width64 m (omega arith) is (omega arith)

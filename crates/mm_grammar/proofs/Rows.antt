@@ -10,7 +10,8 @@ use Rattle.mm_grammar.specs.FileLines.{lines_behind, line_fault}
 use Rattle.mm_grammar.specs.Symmetry.{symmetry_named}
 use Rattle.mm_grammar.specs.Expansion.{expanded}
 use Rattle.mm_grammar.specs.Parts.{banner_words, size_words, value_words}
-use Rattle.mm_grammar.specs.Reading.{step, at_end, read_on, read_text}
+use Rattle.mm_grammar.specs.Reading.{step, at_end, read_text}
+use Rattle.line_text.specs.Formats.{read_on}
 
 abbrev general : List (List ℕ) → List ℕ
 general lines = text_of_lines (codes "%%MatrixMarket matrix array integer general" ∷ lines)

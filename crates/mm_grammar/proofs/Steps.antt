@@ -13,7 +13,8 @@ use Rattle.mm_grammar.specs.Symmetry.{Symmetry}
 use Rattle.mm_grammar.specs.Parts.{Header, wanted, no_words, is_blank_line, is_comment, banner_of, header_of, size_words, value_words}
 use Rattle.mm_grammar.specs.MatrixText.{IsBannerLine, IsBetweenLine, HoldsValues, Opens}
 use Rattle.mm_grammar.specs.Place.{Place, AtBanner, AtSize, AtValues}
-use Rattle.mm_grammar.specs.Reading.{unless_fault, then_at, step}
+use Rattle.line_text.specs.FaultTables.{unless_fault}
+use Rattle.mm_grammar.specs.Reading.{then_at, step}
 use Rattle.mm_grammar.specs.MatrixFault.{Begins, Holds, LeadsTo}
 
 -- what a step that was taken says

@@ -11,26 +11,27 @@ use Rattle.mm_grammar.specs.FileLines.{Line, is_text_byte, line_fault}
 use Rattle.mm_grammar.specs.Symmetry.{Symmetry, symmetry_named}
 use Rattle.mm_grammar.specs.Parts.{Header, wanted, no_words, is_blank_line, is_comment, starts_blank, symmetry_or_fault, banner_words, header_of, size_words, may_store, ranged, value_words}
 use Rattle.mm_grammar.specs.Place.{Place, AtBanner, AtSize, AtValues}
-use Rattle.mm_grammar.specs.Reading.{unless_fault, then_at, step, at_end, fault_of, IsByTable}
+use Rattle.line_text.specs.FaultTables.{when, first_fault, unless_fault, fault_of}
+use Rattle.mm_grammar.specs.Reading.{then_at, step, at_end}
 use Rattle.mm_grammar.specs.Matrix.{Matrix}
 use Rattle.mm_grammar.specs.MatrixText.{matrix_of}
-use Rattle.mm_grammar.specs.FaultTable.{is_matrix_file, is_integer_array, one_integer, is_out_of_range, rows_at, rows, first_met, end_fault}
+use Rattle.mm_grammar.specs.FaultTable.{is_matrix_file, is_integer_array, one_integer, is_out_of_range, rows_at, rows, end_fault}
 
 -- the rows of every line
-every_line : (a b c : Bool) (next : Result Place Fault) (more : List (Bool × Fault)) → fault_of next ≡ first_met more
-    → fault_of (unless_fault (cond a (Some FileLong) (cond b (Some LineLong) (cond c None (Some NotText)))) next) ≡ first_met ((a, FileLong) ∷ (b, LineLong) ∷ (not c, NotText) ∷ more)
+every_line : (a b c : Bool) (next : Result Place Fault) (more : List (Option Fault)) → fault_of next ≡ first_fault more
+    → fault_of (unless_fault (cond a (Some FileLong) (cond b (Some LineLong) (cond c None (Some NotText)))) next) ≡ first_fault (when a FileLong ∷ when b LineLong ∷ when (not c) NotText ∷ more)
 every_line true b c next more e = refl
 every_line false true c next more e = refl
 every_line false false false next more e = refl
 every_line false false true next more e = e
 
 -- those of the banner
-named : (o : Option Symmetry) → fault_of (then_at AtSize (symmetry_or_fault o)) ≡ first_met ((is_none o, SymmetryFault) ∷ [])
+named : (o : Option Symmetry) → fault_of (then_at AtSize (symmetry_or_fault o)) ≡ first_fault (when (is_none o) SymmetryFault ∷ [])
 named (Some kind) = refl
 named None = refl
 
 five : (x y u v : Bool) (o : Option Symmetry)
-    → fault_of (then_at AtSize (cond (x && y) (cond (u && v) (symmetry_or_fault o) (Err Field)) (Err Banner))) ≡ first_met ((not (x && y), Banner) ∷ (not (u && v), Field) ∷ (is_none o, SymmetryFault) ∷ [])
+    → fault_of (then_at AtSize (cond (x && y) (cond (u && v) (symmetry_or_fault o) (Err Field)) (Err Banner))) ≡ first_fault (when (not (x && y)) Banner ∷ when (not (u && v)) Field ∷ when (is_none o) SymmetryFault ∷ [])
 five true true true true o = named o
 five true true true false o = refl
 five true true false v o = refl
@@ -38,7 +39,7 @@ five true false u v o = refl
 five false y u v o = refl
 
 banner_rows : (late : Bool) (ws : List (List ℕ))
-    → fault_of (then_at AtSize (cond late (Err Banner) (banner_words ws))) ≡ first_met ((not (is_matrix_file late ws), Banner) ∷ (not (is_integer_array ws), Field) ∷ (is_none (symmetry_named (get_or ws 4 [])), SymmetryFault) ∷ [])
+    → fault_of (then_at AtSize (cond late (Err Banner) (banner_words ws))) ≡ first_fault (when (not (is_matrix_file late ws)) Banner ∷ when (not (is_integer_array ws)) Field ∷ when (is_none (symmetry_named (get_or ws 4 []))) SymmetryFault ∷ [])
 unfolding banner_words is_matrix_file is_integer_array
 banner_rows true ws = refl
 banner_rows false [] = refl
@@ -54,7 +55,7 @@ banner_rows false (a ∷ b ∷ c ∷ d ∷ e ∷ f ∷ ws) =
 
 -- that of the size line
 is_the_size_fault : Result Header Fault → Type 0
-is_the_size_fault r = fault_of r ≡ first_met ((is_err r, Size) ∷ [])
+is_the_size_fault r = fault_of r ≡ first_fault (when (is_err r) Size ∷ [])
 
 sized : (header : Header) (t : Bool) → is_the_size_fault (cond t (Ok header) (Err Size))
 unfolding is_the_size_fault
@@ -74,13 +75,13 @@ size_fault width kind (m ∷ []) = refl
 size_fault width kind (m ∷ n ∷ []) = header_fault width kind (unsigned_number m) (unsigned_number n)
 size_fault width kind (m ∷ n ∷ w ∷ ws) = refl
 
-size_next : (r : Result Header Fault) → is_the_size_fault r → fault_of (then_at (λ header. AtValues header []) r) ≡ first_met ((is_err r, Size) ∷ [])
+size_next : (r : Result Header Fault) → is_the_size_fault r → fault_of (then_at (λ header. AtValues header []) r) ≡ first_fault (when (is_err r) Size ∷ [])
 unfolding is_the_size_fault
 size_next (Ok header) e = refl
 size_next (Err fault) e = e
 
 size_rows : (kind : Symmetry) (t : Bool) (r : Result Header Fault) → is_the_size_fault r
-    → fault_of (cond t (Ok (AtSize kind)) (then_at (λ header. AtValues header []) r)) ≡ first_met ((not t && is_err r, Size) ∷ [])
+    → fault_of (cond t (Ok (AtSize kind)) (then_at (λ header. AtValues header []) r)) ≡ first_fault (when (not t && is_err r) Size ∷ [])
 size_rows kind true r e = refl
 size_rows kind false r e = size_next r e
 
@@ -91,24 +92,24 @@ value_is width kind [] = refl
 value_is width kind (w ∷ []) = refl
 value_is width kind (w ∷ x ∷ ws) = refl
 
-in_range : (place : ℤ → Place) (v : ℤ) (t : Bool) → fault_of (then_at place (cond t (Ok v) (Err Range))) ≡ first_met ((not t, Range) ∷ [])
+in_range : (place : ℤ → Place) (v : ℤ) (t : Bool) → fault_of (then_at place (cond t (Ok v) (Err Range))) ≡ first_fault (when (not t) Range ∷ [])
 in_range place v true = refl
 in_range place v false = refl
 
-value_next : (width : Width) (kind : Symmetry) (place : ℤ → Place) (o : Option ℤ) → fault_of (then_at place (ranged width kind o)) ≡ first_met ((is_none o, Value) ∷ (is_out_of_range width kind o, Range) ∷ [])
+value_next : (width : Width) (kind : Symmetry) (place : ℤ → Place) (o : Option ℤ) → fault_of (then_at place (ranged width kind o)) ≡ first_fault (when (is_none o) Value ∷ when (is_out_of_range width kind o) Range ∷ [])
 value_next width kind place (Some v) = in_range place v (may_store width kind v)
 value_next width kind place None = refl
 
 value_rows : (width : Width) (header : Header) (stored : List ℤ) (ws : List (List ℕ)) (full : Bool)
     → fault_of (cond (no_words ws) (Ok (AtValues header stored)) (cond full (Err (TooMany (wanted header))) (then_at (λ v. AtValues header (stored ++ v ∷ [])) (value_words width header.symmetry ws))))
-    ≡ first_met ((not (no_words ws) && full, TooMany (wanted header)) ∷ (not (no_words ws) && is_none (one_integer ws), Value) ∷ (is_out_of_range width header.symmetry (one_integer ws), Range) ∷ [])
+    ≡ first_fault (when (not (no_words ws) && full) (TooMany (wanted header)) ∷ when (not (no_words ws) && is_none (one_integer ws)) Value ∷ when (is_out_of_range width header.symmetry (one_integer ws)) Range ∷ [])
 value_rows width header stored [] full = refl
 value_rows width header stored (w ∷ ws) true = refl
 value_rows width header stored (w ∷ ws) false =
     ap (λ (r : Result ℤ Fault). fault_of (then_at (λ (v : ℤ). AtValues header (stored ++ v ∷ [])) r)) (value_is width header.symmetry (w ∷ ws))
     ∙ value_next width header.symmetry (λ (v : ℤ). AtValues header (stored ++ v ∷ [])) (one_integer (w ∷ ws))
 
-pub line_fails : (width : Width) (place : Place) (line : Line) → fault_of (step width place line) ≡ first_met (rows width place line)
+pub line_fails : (width : Width) (place : Place) (line : Line) → fault_of (step width place line) ≡ first_fault (rows width place line)
 unfolding step line_fault
 line_fails width AtBanner line = every_line _ _ (list_all is_text_byte line.text) _ (rows_at width AtBanner line.text) (banner_rows (starts_blank line.text) (words line.text))
 line_fails width (AtSize kind) line =
@@ -127,11 +128,3 @@ unfolding at_end
 end_fails AtBanner = refl
 end_fails (AtSize kind) = refl
 end_fails (AtValues header stored) = too_few _ (matrix_of header stored) (TooFew (length stored) (wanted header))
-
-pub by_table : (width : Width) → IsByTable width
-by_table width = record { at_line = line_fails width; at_file_end = end_fails }
-
--- an answer with a fault
-pub refused_by : {X : Type 0} (r : Result X Fault) (fault : Fault) → fault_of r ≡ Some fault → r ≡ Err fault
-refused_by (Ok x) fault e = absurd cc
-refused_by (Err other) fault e = let same : other ≡ fault = cc in ap (λ (f : Fault). Err f) same

@@ -4,6 +4,7 @@ use Rattle.std.specs.List.{list_all}
 use Rattle.std.specs.Str.{str_eq_ignore_ascii_case}
 use Rattle.line_text.specs.Words.{words}
 use Rattle.line_text.specs.Numbers.{signed_number}
+use Rattle.line_text.specs.FaultTables.{FaultTable, when, first_fault}
 use Rattle.mm_grammar.specs.Width.{Width}
 use Rattle.mm_grammar.specs.Faults.{Fault, FileLong, LineLong, NotText, Banner, Field, Symmetry as SymmetryFault, Size, TooMany, Value, Range, TooFew}
 use Rattle.mm_grammar.specs.FileLines.{Line, is_text_byte}
@@ -37,34 +38,33 @@ may_hold_any (AtSize kind) text = is_comment text
 may_hold_any (AtValues header stored) text = false
 
 -- the rows of a place
-abbrev pub rows_at : Width → Place → List ℕ → List (Bool × Fault)
+abbrev pub rows_at : Width → Place → List ℕ → List (Option Fault)
 rows_at width AtBanner text =
-    (not (is_matrix_file (starts_blank text) (words text)), Banner)
-    ∷ (not (is_integer_array (words text)), Field)
-    ∷ (is_none (symmetry_named (get_or (words text) 4 [])), SymmetryFault)
+    when (not (is_matrix_file (starts_blank text) (words text))) Banner
+    ∷ when (not (is_integer_array (words text))) Field
+    ∷ when (is_none (symmetry_named (get_or (words text) 4 []))) SymmetryFault
     ∷ []
-rows_at width (AtSize kind) text = (not (is_comment text || is_blank_line text) && is_err (size_words width kind (words text)), Size) ∷ []
+rows_at width (AtSize kind) text = when (not (is_comment text || is_blank_line text) && is_err (size_words width kind (words text))) Size ∷ []
 rows_at width (AtValues header stored) text =
-    (not (is_blank_line text) && (length stored == wanted header), TooMany (wanted header))
-    ∷ (not (is_blank_line text) && is_none (one_integer (words text)), Value)
-    ∷ (is_out_of_range width header.symmetry (one_integer (words text)), Range)
+    when (not (is_blank_line text) && (length stored == wanted header)) (TooMany (wanted header))
+    ∷ when (not (is_blank_line text) && is_none (one_integer (words text))) Value
+    ∷ when (is_out_of_range width header.symmetry (one_integer (words text))) Range
     ∷ []
 
 -- all rows
-abbrev pub rows : Width → Place → Line → List (Bool × Fault)
+abbrev pub rows : Width → Place → Line → List (Option Fault)
 rows width place line =
-    (nat_lt (2 ^ 30) line.upto, FileLong)
-    ∷ (nat_lt 1024 (length line.text), LineLong)
-    ∷ (not (may_hold_any place line.text || list_all is_text_byte line.text), NotText)
+    when (nat_lt (2 ^ 30) line.upto) FileLong
+    ∷ when (nat_lt 1024 (length line.text)) LineLong
+    ∷ when (not (may_hold_any place line.text || list_all is_text_byte line.text)) NotText
     ∷ rows_at width place line.text
-
--- the first row that is met
-abbrev pub first_met : List (Bool × Fault) → Option Fault
-first_met [] = None
-first_met (row ∷ more) = if row.0 then Some row.1 else first_met more
 
 -- what is missing where the file ends
 abbrev pub end_fault : Place → Option Fault
 end_fault AtBanner = Some Banner
 end_fault (AtSize kind) = Some Size
 end_fault (AtValues header stored) = if length stored == wanted header then None else Some (TooFew (length stored) (wanted header))
+
+-- A line is refused by the first row that it meets, and the file's end by what is missing.
+abbrev pub matrix_faults : Width → FaultTable Place Line Fault
+matrix_faults width = record { of_line = λ n place line. first_fault (rows width place line); of_end = end_fault }

@@ -1,5 +1,6 @@
 -- What can be wrong with a Matrix Market file.
 use Rattle.std.specs.Prelude.{ℕ}
+use Rattle.line_text.specs.Formats as formats
 
 pub data Fault : Type 0 where
   -- the file is longer than 2^30 bytes
@@ -26,6 +27,5 @@ pub data Fault : Type 0 where
   TooFew : (have want : ℕ) → Fault
 
 -- a fault and its line, counted from 1
-pub record Refusal : Type 0 where
-  pub line : ℕ
-  pub fault : Fault
+abbrev pub Refusal : Type 0
+Refusal = formats.Refusal Fault

@@ -1,7 +1,8 @@
 -- The lines of a file, each with its place in the file, and what every line must keep.
-use Rattle.std.specs.Prelude.{ℕ, ◌+◌, ◌^◌, Bool, List, [], ◌∷◌, ◌||◌, ◌&&◌, length, Option, Some, None, nat_le, nat_lt, ◌==◌, if◌then◌else◌}
+use Rattle.std.specs.Prelude.{ℕ, ◌+◌, ◌^◌, Bool, List, [], ◌∷◌, ◌||◌, length, Option, Some, None, nat_lt, if◌then◌else◌}
 use Rattle.std.specs.List.{list_all}
 use Rattle.line_text.specs.Lines.{whole_lines, without_end, without_return}
+pub use Rattle.line_text.specs.TextBytes.{is_text_byte}
 use Rattle.mm_grammar.specs.Faults.{Fault, FileLong, LineLong, NotText}
 
 -- a line without its end and without one carriage return before that, and how many bytes the file has up to the line's end, all of them counted
@@ -20,10 +21,6 @@ lines_behind before (run ∷ runs) = line_behind before run ∷ lines_behind (be
 -- all lines of a file
 abbrev pub file_lines : List ℕ → List Line
 file_lines bytes = lines_behind 0 (whole_lines bytes)
-
--- a tab, or a byte from 32 to 126
-abbrev pub is_text_byte : ℕ → Bool
-is_text_byte b = b == 9 || (nat_le 32 b && nat_le b 126)
 
 -- what is wrong with a line wherever it stands, the first of these: byte number 2^30 + 1 of the file stands in it; it has more than
 -- 1,024 bytes; a byte of it isn't text, and it may not hold any bytes

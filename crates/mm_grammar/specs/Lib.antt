@@ -1,6 +1,11 @@
 pub use Rattle.line_text.specs.Lines
 pub use Rattle.line_text.specs.Words
 pub use Rattle.line_text.specs.Numbers
+pub use Rattle.line_text.specs.TextBytes
+pub use Rattle.line_text.specs.Formats
+pub use Rattle.line_text.specs.FaultTables
+pub use Rattle.line_text.specs.FormatMeaning
+pub use Rattle.line_text.specs.FormatLaws
 pub mod Matrix
 pub mod Width
 pub mod Faults
@@ -11,8 +16,8 @@ pub mod Parts
 pub mod MatrixText
 pub mod Place
 pub mod FaultTable
-pub mod MatrixFault
 pub mod Reading
-pub mod ReadTo
+pub mod MatrixFault
+pub mod GoingOn
 pub mod FirstValue
 pub mod PlainText

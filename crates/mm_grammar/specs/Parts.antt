@@ -3,7 +3,7 @@ use Rattle.std.specs.Prelude.{ℕ, ◌*◌, ◌^◌, Bool, true, false, ℤ, Lis
 use Rattle.std.specs.Str.{str_eq_ignore_ascii_case}
 use Rattle.line_text.specs.Words.{is_blank, words}
 use Rattle.line_text.specs.Numbers.{unsigned_number, signed_number}
-use Rattle.mm_grammar.specs.Width.{Width, is_in_range, has_negative}
+use Rattle.mm_grammar.specs.Width.{Width, most, is_in_range, has_negative}
 use Rattle.mm_grammar.specs.Faults.{Fault, Banner, Field, Symmetry as SymmetryFault, Size, Value, Range}
 use Rattle.mm_grammar.specs.Symmetry.{Symmetry, General, Symmetric, SkewSymmetric, symmetry_named, stored_count}
 
@@ -59,7 +59,7 @@ is_square SkewSymmetric rows columns = rows == columns
 
 abbrev pub is_size : Width → Header → Bool
 is_size width header =
-    nat_le header.rows (2 ^ 24) && nat_le header.columns (2 ^ 24) && nat_le (header.rows * header.columns) width.most
+    nat_le header.rows (2 ^ 24) && nat_le header.columns (2 ^ 24) && nat_le (header.rows * header.columns) (most width)
     && is_square header.symmetry header.rows header.columns
 
 abbrev pub header_of : Width → Symmetry → Option ℕ → Option ℕ → Result Header Fault

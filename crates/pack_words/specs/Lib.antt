@@ -1,2 +1,16 @@
-pub mod LocalCells
+pub mod Accumulators
 pub mod ArrayRefusal
+pub mod Coordinates
+pub mod GridPlans
+pub mod GridShapes
+pub mod GridState
+pub mod GridSteps
+pub mod HeldRegions
+pub mod LocalCells
+pub mod Packing
+pub mod Parts
+pub mod Products
+pub mod RankLaws
+pub mod RankOps
+pub mod Selected
+pub mod WholeRegions

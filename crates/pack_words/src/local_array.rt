@@ -1,12 +1,13 @@
 //! The part of a matrix that one process holds.
 
-ghost use Rattle.std.specs.Prelude.{◌≡◌, ◌≢◌, ◌⊎◌, ◌<◌, ◌≤◌, ◌*◌, ◌^◌, ℕ, length, FitsSigned, IfOk, IfSome, IfNone, MatchResult};
+ghost use Rattle.std.specs.Prelude.{◌≡◌, ◌≢◌, ◌⊎◌, ◌<◌, ◌≤◌, ◌+◌, ◌*◌, ◌^◌, ℕ, length, FitsSigned, IfOk, IfSome, IfNone, MatchResult};
 ghost use Rattle.std.specs.List.{AllByRecursion};
 ghost use Rattle.std.specs.Int.{w32};
-ghost use Rattle.pack_words.specs.LocalCells.{IsLocalCells, zeros, word_at, with_word, column_of};
+ghost use Rattle.pack_words.specs.LocalCells.{IsLocalCells, zeros, word_at, with_word, column_of, part_of, with_part};
 ghost use Rattle.pack_words.specs.ArrayRefusal.{array_refusal};
 
 use crate::ArrayErr;
+use crate::parts::{each_fits, put_part};
 use std::alloc::Global;
 use std::marker::Model;
 
@@ -118,5 +119,30 @@ impl LocalArray {
     {
         let start = j as usize * self.lld as usize;
         &self.words[start..start + self.lld as usize]
+    }
+
+    /// The `len` words of column `j` from row `i` on, both counted from 0.
+    #[inline]
+    pub fn part(&self, i: u32, j: u32, len: u32) -> &[i32]
+        requires rows { i + len ≤ self.now.lld }
+        requires column { j < self.now.cols }
+        ensures words { result.now ≡ part_of self.now i j len }
+        ensures len { length result.now ≡ len }
+    {
+        let start = j as usize * self.lld as usize + i as usize;
+        &self.words[start..start + len as usize]
+    }
+
+    /// Sets the words of column `j` from row `i` on, both counted from 0. All other words stay.
+    #[inline]
+    pub fn set_part(&mut self, i: u32, j: u32, words: &[i32])
+        requires rows { i + length words.now ≤ self.old.lld }
+        requires column { j < self.old.cols }
+        ensures after { self.new ≡ with_part self.old i j words.now }
+        ensures array { IsLocalCells self.new }
+    {
+        let start = j as usize * self.lld as usize + i as usize;
+        each_fits(words);
+        put_part(&mut self.words, start, words);
     }
 }

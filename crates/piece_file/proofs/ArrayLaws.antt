@@ -10,6 +10,7 @@ use Rattle.mm_grammar.specs.Expansion.{expanded}
 use Rattle.mm_grammar.specs.Parts.{Header, wanted, value_words}
 use Rattle.mm_grammar.specs.MatrixText.{matrix_of}
 use Rattle.mm_grammar.specs.Place as at
+use Rattle.line_text.specs.Formats as formats
 use Rattle.mm_grammar.specs.Reading as matrix
 use Rattle.mm_grammar.proofs.Steps as matrix_steps
 use Rattle.piece_grammar.specs.Head.{Head, Piece}
@@ -43,17 +44,17 @@ values_next : (header : Header) (stored : List ℤ) (line : Line) (q : at.Place)
 unfolding matrix.step
 values_next header stored line q e = let p = matrix_steps.unless_ok _ _ q e in value_next header stored (words line.text) _ _ q p.1
 
-end_as : (head : Head) (n : ℕ) (r : Result Matrix MatrixFault) → refused_at n (ended_array head r) ≡ as_piece head (matrix.refused_at n r)
+end_as : (head : Head) (n : ℕ) (r : Result Matrix MatrixFault) → refused_at n (ended_array head r) ≡ as_piece head (refused_at n r)
 end_as head n (Ok m) = refl
 end_as head n (Err fault) = refl
 
 pub values_as : (turn : Turn) (head : Head) (header : Header) (lines : List Line) (n : ℕ) (stored : List ℤ)
     → read_on turn n (Behind head (at.AtValues header stored)) lines ≡ as_piece head (matrix.read_on width32 n (at.AtValues header stored) lines)
-unfolding read_on step at_end matrix.read_on
+unfolding formats.read_on step at_end
 values_as turn head header [] n stored = end_as head n (matrix.at_end (at.AtValues header stored))
 values_as turn head header (line ∷ lines) n stored =
     elim (matrix.step width32 (at.AtValues header stored) line) as (λ (r : Result at.Place MatrixFault). matrix.step width32 (at.AtValues header stored) line ≡ r
-    → and_then (refused_at n (passed [] (Behind head) r)) (λ p. read_on turn (suc n) p lines) ≡ as_piece head (matrix.and_then (matrix.refused_at n r) (λ p. matrix.read_on width32 (suc n) p lines))) [
+    → and_then (refused_at n (passed [] (Behind head) r)) (λ p. read_on turn (suc n) p lines) ≡ as_piece head (and_then (refused_at n r) (λ p. matrix.read_on width32 (suc n) p lines))) [
       | Ok q ↦ λ e. (let m = values_next header stored line q e in
           subst (λ (p : at.Place). read_on turn (suc n) (Behind head p) lines ≡ as_piece head (matrix.read_on width32 (suc n) p lines)) (sym m.1) (values_as turn head header lines (suc n) m.0))
       | Err fault ↦ λ e. refl

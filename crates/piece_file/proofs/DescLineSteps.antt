@@ -11,20 +11,6 @@ use Rattle.mm_grammar.specs.Width.{width32, is_in_range}
 use Rattle.mm_grammar.proofs.Ranges.{i32_in_range}
 use Rattle.piece_grammar.specs.Desc.{in_32_bits, before_numbers, numbers_of, desc_numbered, desc_if_all}
 
--- a word that is no integer, one of 32 bits, and another
-pub no_integer : (z : Option ℤ) → z ≡ None → None ≡ in_32_bits z
-no_integer z e = rw e refl
-
-pub in_range : (z : Option ℤ) (v : ℤ) → FitsSigned w32 v → z ≡ Some v → Some v ≡ in_32_bits z
-in_range z v fits e = rw (e, i32_in_range v fits) refl
-
-past : (v : ℤ) → IsPast v → is_in_range width32 v ≡ false
-past (pos n) h = le-ltb n (2 ^ 31) h
-past (negsuc n) h = le-ltb n (2 ^ 31) h
-
-pub out_of_range : (z : Option ℤ) → IsOut z → None ≡ in_32_bits z
-out_of_range z o = rw (o.is, past o.value o.past) refl
-
 -- ---- one word after the other
 
 -- numbers in front of others, if those are there

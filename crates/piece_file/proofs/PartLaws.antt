@@ -12,6 +12,7 @@ use Rattle.mm_reader.specs.ReaderView.{ReaderView, line_of}
 use Rattle.piece_grammar.specs.Faults.{Fault, Mm}
 use Rattle.piece_grammar.specs.Turn.{Turn}
 use Rattle.piece_grammar.specs.Place.{Place, AtBanner, AtDesc, Behind}
+use Rattle.line_text.specs.Formats as formats
 use Rattle.piece_grammar.specs.PieceReading.{step, at_end, read_on}
 use Rattle.piece_file.specs.Stopping.{Stops}
 use Rattle.piece_file.specs.declared.stop.Stop.{Stop}
@@ -19,15 +20,15 @@ use Rattle.piece_file.specs.declared.stop.Stop.TheVariants.{Bad, Failed, Memory}
 
 -- a line that can't stand at its place, one that can, and an end that comes too early
 pub bad_line : (turn : Turn) (n : ℕ) (place : Place) (line : Line) (lines rest : List Line) (fault : Fault) → lines ≡ line ∷ rest → step turn place line ≡ Err fault → read_on turn n place lines ≡ Err (record { line = n; fault = fault })
-unfolding read_on
+unfolding formats.read_on
 bad_line turn n place line lines rest fault whole e = rw (whole, e) refl
 
 pub good_line : (turn : Turn) (n m : ℕ) (place next : Place) (line : Line) (lines rest : List Line) → lines ≡ line ∷ rest → m ≡ suc n → step turn place line ≡ Ok next → read_on turn n place lines ≡ read_on turn m next rest
-unfolding read_on
+unfolding formats.read_on
 good_line turn n m place next line lines rest whole number e = rw (whole, e) (ap (λ (k : ℕ). read_on turn k next rest) (sym number))
 
 pub bad_end : (turn : Turn) (n : ℕ) (place : Place) (lines : List Line) (fault : Fault) → lines ≡ [] → at_end place ≡ Err fault → read_on turn n place lines ≡ Err (record { line = n; fault = fault })
-unfolding read_on
+unfolding formats.read_on
 bad_end turn n place lines fault none e = rw (none, e) refl
 
 -- ---- a line that is too long, or too far behind in the file

@@ -8,21 +8,9 @@ ghost use Rattle.piece_grammar.specs.Desc.{desc_word, in_32_bits, numbers_of, de
 ghost use Rattle.piece_file.specs.DescView.{desc_view};
 
 use crate::desc::Desc;
-use line_text::{Integer, is_blank_byte, next_word, read_integer};
+use line_text::{is_blank_byte, next_word, read_i32};
 
 const NUMBERS: usize = 11;
-
-// The integer that a word writes, where it has 32 bits.
-#[tactic(auto, using(crate::proofs::DescLineSteps::no_integer, crate::proofs::DescLineSteps::in_range, crate::proofs::DescLineSteps::out_of_range))]
-fn integer(word: &[u8]) -> Option<i32>
-    ensures { result ≡ in_32_bits (signed_number word.now) }
-{
-    match read_integer(word) {
-        Some(Integer::Fits(number)) => Some(number),
-        Some(Integer::OutOfRange) => None,
-        None => None,
-    }
-}
 
 // Sets the number at a place.
 fn set_number(numbers: &mut [i32], place: usize, number: i32)
@@ -44,7 +32,7 @@ fn eleven_integers(line: &[u8]) -> Option<[i32; NUMBERS]>
         let Some((word, behind)) = next_word(rest) else {
             return None;
         };
-        let Some(number) = integer(word) else {
+        let Some(number) = read_i32(word) else {
             return None;
         };
         set_number(&mut numbers, k, number);

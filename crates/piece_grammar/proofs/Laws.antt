@@ -1,74 +1,211 @@
--- At each turn a file is exactly one piece or has exactly one fault, and never both; and a line of a fault continues to no piece.
-use Rattle.std.proofs.Common.{◌≡◌, ℕ, suc, ◌⊎◌, List, [], ◌∷◌, ◌++◌, length, Result, Ok, Err, refl, sym, subst, ◌∙◌, append_assoc}
+-- The parts of a piece describe its format: all laws of formats hold of it.
+use Rattle.std.proofs.Common.{◌≡◌, ℕ, suc, ◌+◌, ◌^◌, ◌≤◌, Bool, true, false, cond, ℤ, List, [], ◌∷◌, ◌++◌, length, Result, Ok, Err, refl, sym, ap, subst, ◌∙◌, append_assoc, append-nil, arith}
 use mathlib.Core.Logic.{inl, inr}
-use Rattle.mm_grammar.specs.FileLines.{Line, file_lines}
-use Rattle.piece_grammar.specs.Head.{Piece}
-use Rattle.piece_grammar.specs.Faults.{Fault, Refusal}
-use Rattle.piece_grammar.specs.Turn.{Turn}
-use Rattle.piece_grammar.specs.PieceText.{IsPieceAt, IsPieceTextAt}
-use Rattle.piece_grammar.specs.Place.{Place, AtBanner}
-use Rattle.piece_grammar.specs.PieceFault.{LeadsTo, FailsAtLine, IsRefused, IsPieceFault, IsFirstBad, IsDecided}
-use Rattle.piece_grammar.specs.PieceReading.{read_text, IsReading}
-use Rattle.piece_grammar.proofs.Soundness.{Tells, told}
-use Rattle.piece_grammar.proofs.Completeness.{read_accepted, read_refused}
+use Rattle.std.specs.List.{AllByRecursion}
+use Rattle.std.proofs.lemmas.List.{length-append}
+use Rattle.line_text.specs.FormatMeaning as meaning
+use Rattle.line_text.specs.FormatLaws.{Describes}
+use Rattle.line_text.proofs.FormatSteps.{leads_append}
+use Rattle.line_text.proofs.FormatReadings as readings
+use Rattle.line_text.proofs.FormatLaws as laws
+use Rattle.mm_grammar.specs.Width.{width32}
+use Rattle.mm_grammar.specs.Matrix.{Matrix}
+use Rattle.mm_grammar.specs.Faults.{Fault as MatrixFault, TooFew}
+use Rattle.mm_grammar.specs.FileLines.{Line}
+use Rattle.mm_grammar.specs.Symmetry.{Symmetry, General}
+use Rattle.mm_grammar.specs.Parts.{Header, wanted, banner_of}
+use Rattle.mm_grammar.specs.MatrixText.{IsBannerLine, IsBetweenLine, HoldsValues, Opens, IsAccepted, matrix_of}
+use Rattle.mm_grammar.specs.Place as at
+use Rattle.mm_grammar.specs.MatrixFault as matrix
+use Rattle.mm_grammar.specs.Reading as matrix_reading
+use Rattle.mm_grammar.proofs.Laws as matrix_laws
+use Rattle.piece_grammar.specs.Head.{Head, Piece, array_of, array_columns, array_words}
+use Rattle.piece_grammar.specs.Faults.{Fault}
+use Rattle.piece_grammar.specs.Turn.{Turn, HasTurn}
+use Rattle.piece_grammar.specs.PieceText.{IsPiece, IsPieceAt}
+use Rattle.piece_grammar.specs.Place.{Place, AtBanner, AtDesc, Behind}
+use Rattle.piece_grammar.specs.FaultTable.{piece_faults}
+use Rattle.piece_grammar.specs.PieceReading.{ended_array, at_end, piece_format}
+use Rattle.piece_grammar.specs.PieceFault.{HasArray, Stands, LeadsTo, IsReading, IsDecided, IsFirst}
+use Rattle.piece_grammar.proofs.Steps.{leads_on}
+use Rattle.piece_grammar.proofs.Table.{line_fails, end_fails}
+use Rattle.piece_grammar.proofs.LineKinds.{banner_step, desc_step_on, between_step, size_step, blank_step, value_step, stored_end}
 
--- What is read of all lines says what they are.
-pub tells : (turn : Turn) (bytes : List ℕ) → Tells turn (file_lines bytes) (read_text turn bytes)
-tells turn bytes = told turn (file_lines bytes) [] 1 AtBanner refl refl
+-- ---- lines that stand in the parts are taken
 
-pub reading : (turn : Turn) → IsReading turn
-reading turn = record {
-  accepts = λ bytes p e. subst (Tells turn (file_lines bytes)) e (tells turn bytes);
-  refuses = λ bytes r e. subst (Tells turn (file_lines bytes)) e (tells turn bytes);
-  reads = λ bytes p is. read_accepted turn (file_lines bytes) p is;
-  finds = λ bytes r is. read_refused turn (file_lines bytes) r is;
-}
+between : (turn : Turn) (head : Head) (kind : Symmetry) (lines : List Line) (n : ℕ) → AllByRecursion IsBetweenLine lines
+    → meaning.LeadsFrom (piece_format turn) n (Behind head (at.AtSize kind)) lines (Behind head (at.AtSize kind))
+between turn head kind [] n all = refl
+between turn head kind (line ∷ more) n all = (Behind head (at.AtSize kind), between_step turn head kind line all.0, between turn head kind more (suc n) all.1)
 
-abbrev given : Piece → Result Piece Refusal
+values : (turn : Turn) (head : Head) (header : Header) (body : List Line) (old vs : List ℤ) (n : ℕ) → HoldsValues width32 header body vs → length old + length vs ≤ wanted header
+    → meaning.LeadsFrom (piece_format turn) n (Behind head (at.AtValues header old)) body (Behind head (at.AtValues header (old ++ vs)))
+values turn head header [] old vs n holds most = ap (λ (us : List ℤ). Behind head (at.AtValues header us)) (sym (ap (λ (us : List ℤ). old ++ us) holds ∙ append-nil old))
+values turn head header (line ∷ body) old vs n (inl blank) most =
+    (Behind head (at.AtValues header old), blank_step turn head header old line blank.0, values turn head header body old vs (suc n) blank.1 most)
+values turn head header (line ∷ body) old vs n (inr value) most =
+    let long : length vs ≡ suc (length value.1) = ap (λ (us : List ℤ). length us) value.2 in
+    let longer : length (old ++ value.0 ∷ []) ≡ length old + 1 = length-append old (value.0 ∷ []) in
+    let same : (old ++ value.0 ∷ []) ++ value.1 ≡ old ++ vs = append_assoc old (value.0 ∷ []) value.1 ∙ ap (λ (us : List ℤ). old ++ us) (sym value.2) in (
+      Behind head (at.AtValues header (old ++ value.0 ∷ [])),
+      value_step turn head header old value.0 line value.3 (omega arith),
+      subst (λ (us : List ℤ). meaning.LeadsFrom (piece_format turn) (suc n) (Behind head (at.AtValues header (old ++ value.0 ∷ []))) body (Behind head (at.AtValues header us))) same
+          (values turn head header body (old ++ value.0 ∷ []) value.1 (suc n) value.4 (omega arith)),
+    )
+
+abbrev lines_of : List Line → List Line
+lines_of ls = ls
+
+first_of : (a b : Line) (ls ms : List Line) → lines_of (a ∷ ls) ≡ lines_of (b ∷ ms) → a ≡ b
+first_of a b ls ms e = cc
+
+rest_of : (a b : Line) (ls ms : List Line) → lines_of (a ∷ ls) ≡ lines_of (b ∷ ms) → ls ≡ ms
+rest_of a b ls ms e = cc
+
+abbrev named : Symmetry → Result Symmetry MatrixFault
+named kind = Ok kind
+
+kind_is : (j k : Symmetry) → named j ≡ named k → j ≡ k
+kind_is j k e = cc
+
+-- two banners that are one
+same_kind : (a b : Line) (j k : Symmetry) → a ≡ b → IsBannerLine j a → IsBannerLine k b → k ≡ j
+same_kind a b j k same x y = kind_is k j (sym y.names ∙ ap (λ (line : Line). banner_of line.text) (sym same) ∙ x.names)
+
+-- the lines behind the head's
+parts : (turn : Turn) (head : Head) (banner : Line) (rest : List Line) (place : at.Place) (n : ℕ) → IsBannerLine General banner → matrix.LeadsTo width32 (banner ∷ rest) place → HasArray turn head place
+    → meaning.LeadsFrom (piece_format turn) n (Behind head (at.AtSize General)) rest (Behind head place)
+parts turn head banner rest at.AtBanner n is none a = absurd cc
+parts turn head banner rest (at.AtSize kind) n is b a =
+    let general : kind ≡ General = same_kind banner b.banner General kind (first_of banner b.banner rest b.between b.whole) is b.is_banner in
+    let same : rest ≡ b.between = rest_of banner b.banner rest b.between b.whole in
+    subst (λ (ls : List Line). meaning.LeadsFrom (piece_format turn) n (Behind head (at.AtSize General)) ls (Behind head (at.AtSize kind))) (sym same)
+    (subst (λ (s : Symmetry). meaning.LeadsFrom (piece_format turn) n (Behind head (at.AtSize s)) b.between (Behind head (at.AtSize kind))) general (between turn head kind b.between n b.are_between))
+parts turn head banner rest (at.AtValues header stored) n is h a =
+    let o : Opens width32 (banner ∷ rest) header h.body = h.opens in
+    let general : header.symmetry ≡ General = same_kind banner o.banner General header.symmetry (first_of banner o.banner rest (o.between ++ o.size ∷ h.body) o.whole) is o.is_banner in
+    let same : rest ≡ o.between ++ o.size ∷ h.body = rest_of banner o.banner rest (o.between ++ o.size ∷ h.body) o.whole in
+    let most : length stored ≤ wanted header = h.count in
+    subst (λ (ls : List Line). meaning.LeadsFrom (piece_format turn) n (Behind head (at.AtSize General)) ls (Behind head (at.AtValues header stored))) (sym same)
+    (subst (λ (s : Symmetry). meaning.LeadsFrom (piece_format turn) n (Behind head (at.AtSize s)) (o.between ++ o.size ∷ h.body) (Behind head (at.AtValues header stored))) general
+    (leads_append (piece_format turn) n (n + length o.between) (Behind head (at.AtSize header.symmetry)) (Behind head (at.AtSize header.symmetry)) (Behind head (at.AtValues header stored)) o.between (o.size ∷ h.body)
+    (between turn head header.symmetry o.between n o.are_between) refl
+    (Behind head (at.AtValues header []), size_step turn head header stored o.size a o.is_size_line, values turn head header h.body [] stored (suc (n + length o.between)) h.holds (omega arith))))
+
+leads : (turn : Turn) (before : List Line) (place : Place) → LeadsTo turn before place → meaning.Leads (piece_format turn) before place
+leads turn before AtBanner stand = subst (λ (ls : List Line). meaning.Leads (piece_format turn) ls AtBanner) (sym stand) refl
+leads turn before AtDesc b = subst (λ (ls : List Line). meaning.Leads (piece_format turn) ls AtDesc) (sym b.whole) (AtDesc, banner_step turn b.banner b.is_banner, refl)
+leads turn before (Behind head place) s =
+    subst (λ (ls : List Line). meaning.Leads (piece_format turn) ls (Behind head place)) (sym s.whole)
+    (AtDesc, banner_step turn s.banner s.is_banner, (Behind head (at.AtSize General), desc_step_on turn head s.desc s.is_desc s.row s.column s.agrees, parts turn head s.banner s.rest place 3 s.is_banner s.leads s.array))
+
+-- ---- the end
+
+abbrev given : Piece → Result Piece Fault
 given p = Ok p
 
-abbrev refused : Refusal → Result Piece Refusal
-refused r = Err r
+piece_is : (p q : Piece) → given p ≡ given q → q ≡ p
+piece_is p q e = let s : p ≡ q = cc in sym s
 
-pub same_piece : (p q : Piece) → given p ≡ given q → p ≡ q
-same_piece p q e = cc
+abbrev made : Matrix → Result Matrix MatrixFault
+made m = Ok m
 
-pub same_fault : (r s : Refusal) → refused r ≡ refused s → r ≡ s
-same_fault r s e = cc
+matrix_is : (m n : Matrix) → made m ≡ made n → n ≡ m
+matrix_is m n e = let s : m ≡ n = cc in sym s
 
-pub not_both : (p : Piece) (r : Refusal) → given p ≡ refused r → ⊥
-not_both p r e = cc
+-- the array of a file that is at its end
+whole_array : (head : Head) (r : Result Matrix MatrixFault) (p : Piece) → ended_array head r ≡ Ok p → (m : Matrix) × (r ≡ Ok m) × (p ≡ record { head = head; words = m.values })
+whole_array head (Ok m) p e = (m, refl, piece_is (record { head = head; words = m.values }) p e)
+whole_array head (Err fault) p e = absurd cc
 
-one_of : (turn : Turn) (bytes : List ℕ) (r : Result Piece Refusal) → Tells turn (file_lines bytes) r → ((p : Piece) × IsPieceTextAt turn bytes p) ⊎ ((f : Refusal) × IsPieceFault turn bytes f)
-one_of turn bytes (Ok p) is = inl (p, is)
-one_of turn bytes (Err f) is = inr (f, is)
+stored_matrix : (header : Header) (stored : List ℤ) (t : Bool) (m : Matrix) → cond t (Ok (matrix_of header stored)) (Err (TooFew (length stored) (wanted header))) ≡ Ok m → m ≡ matrix_of header stored
+stored_matrix header stored true m e = matrix_is (matrix_of header stored) m e
+stored_matrix header stored false m e = absurd cc
 
-pub decided : (turn : Turn) → IsDecided turn
-decided turn = record {
-  either = λ bytes. one_of turn bytes (read_text turn bytes) (tells turn bytes);
-  one_piece = λ bytes p q a b. same_piece p q (sym (read_accepted turn (file_lines bytes) p a) ∙ read_accepted turn (file_lines bytes) q b);
-  one_fault = λ bytes r s a b. same_fault r s (sym (read_refused turn (file_lines bytes) r a) ∙ read_refused turn (file_lines bytes) s b);
-  not_both = λ bytes p r a b. not_both p r (sym (read_accepted turn (file_lines bytes) p a) ∙ read_refused turn (file_lines bytes) r b);
-}
+-- it has the size of the head's, and there is room for it
+sized : (turn : Turn) (head : Head) (place : at.Place) (m : Matrix) → HasArray turn head place → matrix_reading.at_end place ≡ Ok m → (m.rows ≡ head.lld) × (m.columns ≡ array_columns head) × (turn.before + array_words head ≤ 2 ^ 26)
+unfolding matrix_reading.at_end
+sized turn head at.AtBanner m a e = absurd cc
+sized turn head (at.AtSize kind) m a e = absurd cc
+sized turn head (at.AtValues header stored) m a e =
+    let same : m ≡ matrix_of header stored = stored_matrix header stored _ m e in
+    (ap (λ (x : Matrix). x.rows) same ∙ a.0, ap (λ (x : Matrix). x.columns) same ∙ a.1, a.2)
 
-clash : (turn : Turn) (lines : List Line) (p : Piece) (r : Refusal) → IsPieceAt turn lines p → IsRefused turn lines r → ⊥
-clash turn lines p r a b = not_both p r (sym (read_accepted turn lines p a) ∙ read_refused turn lines r b)
+same_array : (head : Head) (m : Matrix) → m.rows ≡ head.lld → m.columns ≡ array_columns head → m ≡ array_of (record { head = head; words = m.values })
+same_array head m rows columns = rw (← rows, ← columns) refl
 
-stops : (turn : Turn) (lines before : List Line) (place : Place) (fault : Fault) → LeadsTo turn before place → (bad : FailsAtLine turn lines before place fault)
-    → (more : List Line) (p : Piece) → IsPieceAt turn ((before ++ bad.line ∷ []) ++ more) p → ⊥
-stops turn lines before place fault stand bad more p a =
-    clash turn ((before ++ bad.line ∷ []) ++ more) p (record { line = suc (length before); fault = fault }) a
+piece_end : (turn : Turn) (before : List Line) (head : Head) (place : at.Place) (p : Piece) → Stands turn before head place → ended_array head (matrix_reading.at_end place) ≡ Ok p → IsPieceAt turn before p
+piece_end turn before head place p s e =
+    let w = whole_array head (matrix_reading.at_end place) p e in
+    let k = sized turn head place w.0 s.array w.1 in
+    subst (λ (x : Piece). IsPieceAt turn before x) (sym w.2)
     (record {
-      before = before;
-      place = place;
-      stand = stand;
-      number = refl;
-      next = inl (record { line = bad.line; behind = more; whole = append_assoc before (bad.line ∷ []) more; fails = bad.fails });
+      piece = record {
+        banner = s.banner;
+        desc = s.desc;
+        rest = s.rest;
+        whole = s.whole;
+        is_banner = s.is_banner;
+        is_desc = s.is_desc;
+        array = subst (λ (m : Matrix). IsAccepted width32 (s.banner ∷ s.rest) m) (same_array head w.0 k.0 k.1) (matrix_laws.ends_as width32 (s.banner ∷ s.rest) place w.0 s.leads w.1);
+      };
+      turn_is = record { row = s.row; column = s.column; agrees = s.agrees; few = k.2 };
     })
 
-pub first_bad : (turn : Turn) → IsFirstBad turn
-first_bad turn = record {
-  line_stops = stops turn;
-  end_stops = λ lines before place fault stand bad p a.
-      clash turn lines p (record { line = suc (length before); fault = fault }) a (record { before = before; place = place; stand = stand; number = refl; next = inr bad });
+ends_as : (turn : Turn) (before : List Line) (place : Place) (p : Piece) → LeadsTo turn before place → at_end place ≡ Ok p → IsPieceAt turn before p
+unfolding at_end
+ends_as turn before AtBanner p stand e = absurd cc
+ends_as turn before AtDesc p stand e = absurd cc
+ends_as turn before (Behind head place) p stand e = piece_end turn before head place p stand e
+
+abbrev piece_of : Head → List ℤ → Piece
+piece_of head words = record { head = head; words = words }
+
+ended : (turn : Turn) (all : List Line) (p : Piece) → IsPieceAt turn all p → meaning.IsAccepted (piece_format turn) (LeadsTo turn) all p
+ended turn all p a =
+    let i : IsPiece all p = a.piece in
+    let t : HasTurn turn p.head = a.turn_is in
+    let m : IsAccepted width32 (i.banner ∷ i.rest) (array_of p) = i.array in
+    let some : length m.stored ≤ wanted m.header = let c : length m.stored ≡ wanted m.header = m.parts.count in omega arith in
+    let rows : m.header.rows ≡ p.head.lld = sym (ap (λ (x : Matrix). x.rows) m.matrix) in
+    let columns : m.header.columns ≡ array_columns p.head = sym (ap (λ (x : Matrix). x.columns) m.matrix) in
+    let values : (matrix_of m.header m.stored).values ≡ p.words = sym (ap (λ (x : Matrix). x.values) m.matrix) in
+    record {
+      state = Behind p.head (at.AtValues m.header m.stored);
+      stand = record {
+        banner = i.banner;
+        desc = i.desc;
+        rest = i.rest;
+        whole = i.whole;
+        is_banner = i.is_banner;
+        is_desc = i.is_desc;
+        row = t.row;
+        column = t.column;
+        agrees = t.agrees;
+        leads = record { body = m.parts.body; opens = m.parts.opens; holds = m.parts.holds; count = some };
+        array = (rows, columns, t.few);
+      };
+      ends = stored_end p.head m.header m.stored m.parts.count ∙ ap (λ (ws : List ℤ). Ok (piece_of p.head ws)) values;
+    }
+
+-- ---- so all laws hold
+
+pub describes : (turn : Turn) → Describes (piece_format turn) (piece_faults turn) (LeadsTo turn) (IsPieceAt turn)
+describes turn = record {
+  at_start = refl;
+  goes_on = λ before place next line stand e. leads_on turn before place line next stand e;
+  leads = leads turn;
+  ends = λ all p a. ends_as turn all a.state p a.stand a.ends;
+  ended = ended turn;
+  of_line = λ n place line. line_fails turn place line;
+  of_end = end_fails;
 }
+
+pub reading : (turn : Turn) → IsReading turn
+reading turn = readings.reading (piece_format turn) (piece_faults turn) (LeadsTo turn) (IsPieceAt turn) (describes turn)
+
+pub decided : (turn : Turn) → IsDecided turn
+decided turn = laws.decided (piece_format turn) (piece_faults turn) (LeadsTo turn) (IsPieceAt turn) (describes turn)
+
+pub first : (turn : Turn) → IsFirst turn
+first turn = laws.first (piece_format turn) (piece_faults turn) (LeadsTo turn) (IsPieceAt turn) (describes turn)

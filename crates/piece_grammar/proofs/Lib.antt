@@ -2,8 +2,7 @@ pub mod Rows
 pub mod Table
 pub mod Heads
 pub mod Steps
-pub mod Soundness
-pub mod Completeness
+pub mod LineKinds
 pub mod Laws
 pub mod GatherLaws
 pub mod GoodHeads

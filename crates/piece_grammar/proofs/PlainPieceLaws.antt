@@ -24,8 +24,8 @@ use Rattle.mm_grammar.specs.PlainText.{banner_line, size_line, cell_lines, plain
 use Rattle.mm_grammar.specs.Place as at
 use Rattle.mm_grammar.specs.Reading as matrix_reading
 use Rattle.mm_grammar.proofs.Written.{decimal_digits, digits_text, decimal_word, text_line, text_append, written_fits}
-use Rattle.mm_grammar.proofs.PlainLaws.{size_short, text_length, banner_text, banner_long, values_short, plain_accepted32}
-use Rattle.mm_grammar.proofs.Completeness as matrix_completeness
+use Rattle.mm_grammar.proofs.PlainLaws.{size_short, text_length, banner_text, banner_long, values_short, plain_accepted}
+use Rattle.mm_grammar.proofs.Laws as matrix_laws
 use Rattle.mm_grammar.proofs.Limits.{accepted_fits}
 use Rattle.piece_grammar.specs.Head.{Head, IsHead, Piece, array_of, array_columns}
 use Rattle.piece_grammar.specs.Desc.{Desc, desc_word, numbers_of, desc_numbered, desc_if_all, desc_words, desc_of, desc_of_head, head_of}
@@ -262,7 +262,7 @@ written_accepted p is =
     let m : Matrix = array_of p in
     let start : ℕ = 0 + length (ended banner_line) in
     let k : ℕ = length (ended (desc_line h)) in
-    let plain : IsAccepted width32 (banner_at ∷ behind start m) m = subst (λ (ls : List Line). IsAccepted width32 ls m) (matrix_lines m) (plain_accepted32 m is.is_array) in
+    let plain : IsAccepted width32 (banner_at ∷ behind start m) m = subst (λ (ls : List Line). IsAccepted width32 ls m) (matrix_lines m) (plain_accepted width32 m is.is_array) in
     let b : length (ended banner_line) ≡ length banner_line + 1 = length-append banner_line (10 ∷ []) in
     let c : length banner_line ≡ 43 = banner_long in
     let d : length (ended (desc_line h)) ≡ length (desc_line h) + 1 = length-append (desc_line h) (10 ∷ []) in
@@ -319,9 +319,9 @@ one_piece lines p q a b =
     let head : q.head ≡ p.head = head_is q.head p.head (desc_is (desc_of_head q.head) (desc_of_head p.head) (sym b.is_desc.says ∙ ap (λ (line : Line). desc_of line.text) desc ∙ a.is_desc.says)) in
     let whole : lines_of (b.banner ∷ b.rest) ≡ lines_of (a.banner ∷ a.rest) = without_second b.banner b.desc a.banner a.desc b.rest a.rest same in
     let array : array_of q ≡ array_of p = matrix_is (array_of q) (array_of p)
-    (sym (matrix_completeness.read_accepted width32 (b.banner ∷ b.rest) (array_of q) b.array)
+    (sym (matrix_laws.read_accepted width32 (b.banner ∷ b.rest) (array_of q) b.array)
     ∙ ap (λ (ls : List Line). matrix_reading.read_on width32 1 at.AtBanner ls) whole
-    ∙ matrix_completeness.read_accepted width32 (a.banner ∷ a.rest) (array_of p) a.array) in
+    ∙ matrix_laws.read_accepted width32 (a.banner ∷ a.rest) (array_of p) a.array) in
     both head (ap (λ (m : Matrix). m.values) array)
   where
     both : q.head ≡ p.head → q.words ≡ p.words → q ≡ p
@@ -336,7 +336,7 @@ reads_back p is = record { again = written_accepted p is; alone = λ q other. on
 pub piece_is_whole : (lines : List Line) (p : Piece) → IsPiece lines p → IsWhole p
 piece_is_whole lines p a = record {
   is_head = (tested.passed (desc_of_head p.head) a.is_desc.on_grid a.is_desc.good).0;
-  is_array = accepted_fits width32 (a.banner ∷ a.rest) (array_of p) (omega arith) a.array;
+  is_array = accepted_fits width32 (a.banner ∷ a.rest) (array_of p) a.array;
 }
 
 -- read by itself, it has its own turn

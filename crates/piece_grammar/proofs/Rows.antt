@@ -15,7 +15,8 @@ use Rattle.piece_grammar.specs.Head.{Head, Piece}
 use Rattle.piece_grammar.specs.Desc.{desc_word, numbers_of, desc_numbered, desc_words}
 use Rattle.piece_grammar.specs.Faults.{Fault, Mm, DescLine, Disagree, DescEntry, WrongPlace, Shape, TooLarge, Refusal}
 use Rattle.piece_grammar.specs.Turn.{Turn, alone}
-use Rattle.piece_grammar.specs.PieceReading.{step, at_end, read_on, read_text}
+use Rattle.piece_grammar.specs.PieceReading.{step, at_end, read_text}
+use Rattle.line_text.specs.Formats.{read_on}
 
 abbrev banner : List ℕ
 banner = codes "%%MatrixMarket matrix array integer general"

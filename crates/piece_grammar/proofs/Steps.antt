@@ -20,7 +20,8 @@ use Rattle.piece_grammar.specs.Turn.{Turn}
 use Rattle.piece_grammar.specs.Place.{Place, AtBanner, AtDesc, Behind}
 use Rattle.piece_grammar.specs.FaultTable.{when, first_fault, is_another, names_another, desc_rows, size_at, array_rows}
 use Rattle.piece_grammar.specs.PieceFault.{HasBanner, HasArray, Stands, LeadsTo}
-use Rattle.piece_grammar.specs.PieceReading.{unless_fault, passed, desc_step, step}
+use Rattle.piece_grammar.specs.PieceReading.{passed, desc_step, step}
+use Rattle.line_text.specs.FaultTables.{unless_fault}
 use Rattle.piece_grammar.proofs.Heads.{all_numbers, agreed, here, when_none, rows_passed}
 
 abbrev next : Place → Result Place Fault

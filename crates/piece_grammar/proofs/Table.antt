@@ -9,6 +9,7 @@ use Rattle.mm_grammar.specs.Symmetry.{General}
 use Rattle.mm_grammar.specs.Parts.{banner_of}
 use Rattle.mm_grammar.specs.Place as at
 use Rattle.mm_grammar.specs.FaultTable as matrix_table
+use Rattle.line_text.specs.FaultTables.{unless_fault, fault_of}
 use Rattle.mm_grammar.specs.Reading as matrix
 use Rattle.mm_grammar.proofs.Table as matrix_laws
 use Rattle.piece_grammar.specs.Head.{Head}
@@ -17,19 +18,19 @@ use Rattle.piece_grammar.specs.Faults.{Fault, Mm}
 use Rattle.piece_grammar.specs.Turn.{Turn}
 use Rattle.piece_grammar.specs.Place.{Place, AtBanner, AtDesc, Behind}
 use Rattle.piece_grammar.specs.FaultTable.{when, first_fault, names_another, desc_rows, size_at, array_rows, rows, end_fault}
-use Rattle.piece_grammar.specs.PieceReading.{unless_fault, passed, desc_step, step, ended_array, at_end, fault_of, IsByTable}
+use Rattle.piece_grammar.specs.PieceReading.{passed, desc_step, step, ended_array, at_end}
 
 fault_or_none : (o : Option Fault) (p : Place) → fault_of (unless_fault o (Ok p)) ≡ o
 fault_or_none None p = refl
 fault_or_none (Some fault) p = refl
 
 -- a step of the array's file and the rows behind its own
-passed_fault : (more : List (Option Fault)) (place : at.Place → Place) (r : Result at.Place MatrixFault) → fault_of (passed more place r) ≡ first_fault (option_map Mm (matrix.fault_of r) ∷ more)
+passed_fault : (more : List (Option Fault)) (place : at.Place → Place) (r : Result at.Place MatrixFault) → fault_of (passed more place r) ≡ first_fault (option_map Mm (fault_of r) ∷ more)
 passed_fault more place (Ok next) = fault_or_none (first_fault more) (place next)
 passed_fault more place (Err fault) = refl
 
 in_table : (more : List (Option Fault)) (place : at.Place → Place) (here : at.Place) (line : Line)
-    → fault_of (passed more place (matrix.step width32 here line)) ≡ first_fault (option_map Mm (matrix_table.first_met (matrix_table.rows width32 here line)) ∷ more)
+    → fault_of (passed more place (matrix.step width32 here line)) ≡ first_fault (option_map Mm (first_fault (matrix_table.rows width32 here line)) ∷ more)
 in_table more place here line =
     passed_fault more place (matrix.step width32 here line)
     ∙ ap (λ (o : Option MatrixFault). first_fault (option_map Mm o ∷ more)) (matrix_laws.line_fails width32 here line)
@@ -50,7 +51,7 @@ line_fails turn AtDesc line = desc_table (line_fault false line) turn (desc_of l
 line_fails turn (Behind head place) line = in_table (array_rows turn head (size_at place line.text)) (Behind head) place line
 
 -- the file's end
-array_end : (head : Head) (r : Result Matrix MatrixFault) → fault_of (ended_array head r) ≡ option_map Mm (matrix.fault_of r)
+array_end : (head : Head) (r : Result Matrix MatrixFault) → fault_of (ended_array head r) ≡ option_map Mm (fault_of r)
 array_end head (Ok m) = refl
 array_end head (Err fault) = refl
 
@@ -59,11 +60,3 @@ unfolding at_end
 end_fails AtBanner = refl
 end_fails AtDesc = refl
 end_fails (Behind head place) = array_end head (matrix.at_end place) ∙ ap (option_map Mm) (matrix_laws.end_fails place)
-
-pub by_table : (turn : Turn) → IsByTable turn
-by_table turn = record { at_line = line_fails turn; at_file_end = end_fails }
-
--- an answer with a fault
-pub refused_by : {X : Type 0} (r : Result X Fault) (fault : Fault) → fault_of r ≡ Some fault → r ≡ Err fault
-refused_by (Ok x) fault e = absurd cc
-refused_by (Err other) fault e = let same : other ≡ fault = cc in ap (λ (f : Fault). Err f) same

@@ -2,7 +2,7 @@
 use Rattle.std.specs.Prelude.{◌≡◌, ℕ, ◌*◌, ◌-◌, ◌||◌, ◌&&◌, ◌==◌, Bool, false, not, ℤ, pos, negsuc, List, [], ◌∷◌, Option, Some, None, codes, bytes_eq, nat_lt, if◌then◌else◌}
 use Rattle.line_text.specs.Words.{words}
 use Rattle.line_text.specs.Numbers.{signed_number}
-use Rattle.mm_grammar.specs.Width.{width32, is_in_range}
+pub use Rattle.line_text.specs.Integers.{in_32_bits}
 use Rattle.mm_grammar.specs.Parts.{starts_blank}
 use Rattle.proc_grid.specs.Refusals.{dealt_grid, dealt_rank}
 use Rattle.proc_grid.specs.declared.world.Order.TheVariants.{R}
@@ -28,11 +28,6 @@ pub record Desc : Type 0 where
 
 unfoldable pub desc_word : List ℕ
 desc_word = codes "%DESC"
-
--- the number in the range of 32 bits
-abbrev pub in_32_bits : Option ℤ → Option ℤ
-in_32_bits None = None
-in_32_bits (Some v) = if is_in_range width32 v then Some v else None
 
 abbrev pub before_numbers : Option ℤ → Option (List ℤ) → Option (List ℤ)
 before_numbers None more = None

@@ -3,6 +3,8 @@ use Rattle.std.specs.Prelude.{ℕ, ◌+◌, ◌^◌, Bool, true, false, not, ◌
 use Rattle.std.specs.Option.{option_map}
 use Rattle.std.specs.Result.{result_ok}
 use Rattle.line_text.specs.Words.{words}
+use Rattle.line_text.specs.FaultTables.{FaultTable}
+pub use Rattle.line_text.specs.FaultTables.{when, first_fault}
 use Rattle.mm_grammar.specs.Width.{width32}
 use Rattle.mm_grammar.specs.Faults.{Fault as MatrixFault, Symmetry as SymmetryFault}
 use Rattle.mm_grammar.specs.FileLines.{Line, line_fault}
@@ -15,17 +17,6 @@ use Rattle.piece_grammar.specs.Desc.{Desc, desc_of, is_off_grid, desc_info, is_n
 use Rattle.piece_grammar.specs.Faults.{Fault, Mm, DescLine, Disagree, DescEntry, WrongPlace, Shape, TooLarge}
 use Rattle.piece_grammar.specs.Turn.{Turn}
 use Rattle.piece_grammar.specs.Place.{Place, AtBanner, AtDesc, Behind}
-
--- the fault where the test is met
-abbrev pub when : Bool → Fault → Option Fault
-when true fault = Some fault
-when false fault = None
-
--- the first of some faults
-abbrev pub first_fault : List (Option Fault) → Option Fault
-first_fault [] = None
-first_fault (Some fault ∷ more) = Some fault
-first_fault (None ∷ more) = first_fault more
 
 -- a banner of another symmetry
 abbrev pub is_another : Symmetry → Bool
@@ -73,12 +64,16 @@ array_rows turn head (Some size) =
 -- all rows of a line at a place: first those of a matrix file, which the second line has as every line has them
 abbrev pub rows : Turn → Place → Line → List (Option Fault)
 rows turn AtBanner line =
-    option_map Mm (matrix_table.first_met (matrix_table.rows width32 at.AtBanner line)) ∷ when (names_another (banner_of line.text)) (Mm SymmetryFault) ∷ []
+    option_map Mm (first_fault (matrix_table.rows width32 at.AtBanner line)) ∷ when (names_another (banner_of line.text)) (Mm SymmetryFault) ∷ []
 rows turn AtDesc line = option_map Mm (line_fault false line) ∷ desc_rows turn (desc_of line.text)
-rows turn (Behind head place) line = option_map Mm (matrix_table.first_met (matrix_table.rows width32 place line)) ∷ array_rows turn head (size_at place line.text)
+rows turn (Behind head place) line = option_map Mm (first_fault (matrix_table.rows width32 place line)) ∷ array_rows turn head (size_at place line.text)
 
 -- what is missing where the file ends
 abbrev pub end_fault : Place → Option Fault
 end_fault AtBanner = option_map Mm (matrix_table.end_fault at.AtBanner)
 end_fault AtDesc = Some DescLine
 end_fault (Behind head place) = option_map Mm (matrix_table.end_fault place)
+
+-- A line is refused by the first row that it meets, and the file's end by what is missing.
+abbrev pub piece_faults : Turn → FaultTable Place Line Fault
+piece_faults turn = record { of_line = λ n place line. first_fault (rows turn place line); of_end = end_fault }

@@ -1,5 +1,6 @@
 -- What can be wrong with a piece.
 use Rattle.std.specs.Prelude.{ℕ}
+use Rattle.line_text.specs.Formats as formats
 use Rattle.descriptor.specs.declared.info.Info.{Info}
 use Rattle.mm_grammar.specs.Faults.{Fault as MatrixFault}
 
@@ -20,6 +21,5 @@ pub data Fault : Type 0 where
   TooLarge : (words : ℕ) → Fault
 
 -- a fault and its line, counted from 1
-pub record Refusal : Type 0 where
-  pub line : ℕ
-  pub fault : Fault
+abbrev pub Refusal : Type 0
+Refusal = formats.Refusal Fault

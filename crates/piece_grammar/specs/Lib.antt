@@ -8,6 +8,11 @@ pub use Rattle.descriptor.specs.InfoOf
 pub use Rattle.line_text.specs.Lines
 pub use Rattle.line_text.specs.Words
 pub use Rattle.line_text.specs.Numbers
+pub use Rattle.line_text.specs.Integers
+pub use Rattle.line_text.specs.Formats
+pub use Rattle.line_text.specs.FaultTables
+pub use Rattle.line_text.specs.FormatMeaning
+pub use Rattle.line_text.specs.FormatLaws
 pub use Rattle.mm_grammar.specs.Width
 pub use Rattle.mm_grammar.specs.Matrix
 pub use Rattle.mm_grammar.specs.FileLines
@@ -21,7 +26,7 @@ pub mod Turn
 pub mod PieceText
 pub mod Place
 pub mod FaultTable
-pub mod PieceFault
 pub mod PieceReading
+pub mod PieceFault
 pub mod Pieces
 pub mod PlainPiece

@@ -2,8 +2,7 @@
 use Rattle.std.specs.Prelude.{◌≡◌, ℕ, zero, suc, ℤ, List, [], ◌∷◌, length, replicate, refl}
 use Rattle.std.specs.Int.{int_wrapping_add, w32}
 use Rattle.std.proofs.Common.{ap, ◌∙◌}
-use Rattle.msg_core.specs.declared.node.Kind.{Kind}
-use Rattle.msg_core.specs.declared.node.Kind.TheVariants.{Send, Recv, Local}
+use Rattle.msg_core.specs.Kinds.{Kind, Send, Recv, Local}
 use Rattle.plan_tests.specs.declared.cell.CellOp.{CellOp}
 use Rattle.plan_tests.specs.declared.cell.CellOp.TheVariants.{Give, Get, Add}
 

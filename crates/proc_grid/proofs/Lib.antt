@@ -2,3 +2,4 @@ pub mod FirstLemmas
 pub mod GridLemmas
 pub mod MapLemmas
 pub mod PlaceLemmas
+pub mod ScopeLemmas

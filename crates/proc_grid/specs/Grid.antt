@@ -1,5 +1,5 @@
 -- A process grid: ranks at the places of a rectangle. A User's Guide to the BLACS, "Process grids".
-use Rattle.std.specs.Prelude.{◌≡◌, ℕ, ◌+◌, ◌*◌, ◌/◌, ◌%◌, ◌<◌, ◌≤◌, ◌==◌, ◌&&◌, nat_lt, List, length, map, Option, None, Some, slice_get, slice_index, position, if◌then◌else◌, ℤ, pos, negsuc}
+use Rattle.std.specs.Prelude.{◌≡◌, ℕ, ◌+◌, ◌*◌, ◌/◌, ◌%◌, ◌<◌, ◌≤◌, ◌==◌, ◌&&◌, Bool, nat_lt, List, length, map, Option, None, Some, is_some, slice_get, slice_index, position, if◌then◌else◌, ℤ, pos, negsuc}
 use Rattle.std.specs.List.{range_with_len}
 use Rattle.std.specs.Option.{option_map}
 
@@ -16,6 +16,18 @@ place_number npcol p q = p * npcol + q
 -- the rank at the place (p, q), if the place is in the grid
 abbrev pub rank_at : Grid → ℕ → ℕ → Option ℕ
 rank_at g p q = if nat_lt p g.nprow && nat_lt q g.npcol then slice_get g.ranks (place_number g.npcol p q) else None
+
+-- the place is one of the grid's
+abbrev pub is_in : Grid → ℕ × ℕ → Bool
+is_in g place = is_some (rank_at g place.0 place.1)
+
+abbrev pub or_zero : Option ℕ → ℕ
+or_zero None = 0
+or_zero (Some n) = n
+
+-- the rank at a place of the grid
+abbrev pub rank_of : Grid → ℕ × ℕ → ℕ
+rank_of g place = or_zero (rank_at g place.0 place.1)
 
 -- the place of a rank, if the rank is in the grid
 abbrev pub place_of : Grid → ℕ → Option (ℕ × ℕ)

@@ -71,13 +71,21 @@ impl Context {
     // The grid with these ranks, row-major.
     pub(crate) fn new(nprow: u32, npcol: u32, ranks: Vec<u32>) -> Context
         requires { IsGrid (record { nprow = nprow; npcol = npcol; ranks = ranks.items }) }
-        ensures { result ≡ record { nprow = nprow; npcol = npcol; ranks = ranks.items } }
+        ensures made { result ≡ record { nprow = nprow; npcol = npcol; ranks = ranks.items } }
+        ensures grid { IsGrid result }
     {
         Context {
             nprow,
             npcol,
             ranks,
         }
+    }
+
+    // What holds of every context.
+    pub(crate) fn is_grid(&self)
+        ensures grid { IsGrid self.now }
+    {
+        let _ = &self.ranks;
     }
 
     /// The number of process rows, 1 to 64.
@@ -117,8 +125,8 @@ impl Context {
         }
     }
 
-    // The rank at a place, if the place is in the grid.
-    fn rank_at(&self, prow: u32, pcol: u32) -> Option<u32>
+    /// The rank at the place (`prow`, `pcol`), counted from 0. None exactly where the place isn't in the grid.
+    pub fn rank_at(&self, prow: u32, pcol: u32) -> Option<u32>
         ensures rank { result ≡ rank_at self.now prow pcol }
         ensures few { IfSome result (λ rank. rank < 64) }
         ensures grid { IsGrid self.now }

@@ -1,6 +1,7 @@
 //! The contexts of a program, by number.
 
-ghost use Rattle.std.specs.Prelude.{◌≡◌, ◌<◌, [], ◌∷◌, ◌++◌, length, None, Some, IfOk, OnErr, MatchOption};
+ghost use Rattle.std.specs.Prelude.{◌≡◌, ◌<◌, [], ◌∷◌, ◌++◌, length, None, Some, IfOk, IfSome, OnErr, MatchOption};
+ghost use Rattle.proc_grid.specs.Grid.{IsGrid};
 ghost use Rattle.proc_grid.specs.Held.{context_at};
 
 use crate::Context;
@@ -50,13 +51,19 @@ impl Contexts {
 
     /// The context with the number `n`. None exactly where no context has the number.
     pub fn get(&self, n: i64) -> Option<&Context>
-        ensures { MatchOption result (context_at self.now n ≡ None)
+        ensures found { MatchOption result (context_at self.now n ≡ None)
             (λ context. context_at self.now n ≡ Some context.now) }
+        ensures grid { IfSome result (λ context. IsGrid context.now) }
     {
         if n < 0 {
-            None
-        } else {
-            self.held.get(n as usize)
+            return None;
+        }
+        match self.held.get(n as usize) {
+            Some(context) => {
+                context.is_grid();
+                Some(context)
+            }
+            None => None,
         }
     }
 }

@@ -12,5 +12,5 @@ pub use context::{Context, GridInfo};
 pub use contexts::Contexts;
 pub use grid_err::GridErr;
 pub use making::{gridinit, gridmap};
-pub use scope::{Scope, scope_members};
+pub use scope::{Scope, scope_members, scope_position};
 pub use world::{Order, World};

@@ -2,7 +2,7 @@
 
 ghost use Rattle.std.specs.Prelude.{◌≡◌, ℕ, ◌+◌, ◌-◌, ◌*◌, ◌/◌, ◌%◌, ◌<◌, ◌≤◌, length, slice_index, slice_get, Some, None, Ok, Err, IfOk, IfSome, IfNone, MatchOption, MatchResult, OnOk};
 ghost use Rattle.proc_grid.specs.FirstOf.{first_of};
-ghost use Rattle.proc_grid.specs.Grid.{rank_at, place_of};
+ghost use Rattle.proc_grid.specs.Grid.{IsGrid, rank_at, place_of};
 ghost use Rattle.proc_grid.specs.Refusals.{shape_refusal, lead_refusal, map_refusal, place_refusal, dealt_rank, dealt_place, dealt_grid, mapped_grid, FitsShape};
 
 use crate::world::MOST;
@@ -24,6 +24,8 @@ pub fn gridinit(
     ensures made { let grid = dealt_grid order nprow npcol in
         IfNone (shape_refusal world.now.ranks nprow npcol)
         (MatchResult result (λ context. context ≡ grid) (λ e. e ≡ GridErr.NoMemory)) }
+
+    ensures grid { IfOk result IsGrid }
 
     // Which ranks are in the grid, and where each stands.
     ensures places { IfOk result (λ context. (rank : ℕ) → rank < nprow * npcol →
@@ -96,6 +98,8 @@ pub fn gridmap(
         let grid = mapped_grid usermap.now ldumap nprow npcol in
         IfNone refusal
         (MatchResult result (λ context. context ≡ grid) (λ e. e ≡ GridErr.NoMemory)) }
+
+    ensures grid { IfOk result IsGrid }
 
     // Which rank stands at each place.
     ensures places { IfOk result (λ context. (p q : ℕ) → p < nprow → q < npcol →

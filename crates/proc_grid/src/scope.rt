@@ -1,7 +1,8 @@
 //! The scopes of a grid and their members.
 
-ghost use Rattle.std.specs.Prelude.{◌≡◌, IfOk};
-ghost use Rattle.proc_grid.specs.Scopes.{IsScopeOf, members};
+ghost use Rattle.std.specs.Prelude.{◌≡◌, ◌≤◌, ◌↔◌, ℕ, length, IfOk, Some};
+ghost use Rattle.proc_grid.specs.Grid.{IsGrid};
+ghost use Rattle.proc_grid.specs.Scopes.{IsScopeOf, IsPosition, AreDistinct, members, position_in};
 
 use crate::Context;
 use std::alloc::{AllocError, Global};
@@ -14,8 +15,8 @@ pub enum Scope {
     All,
 }
 
-/// The ranks of a scope in scope order: by increasing coordinate, and row-major for the whole grid.
-pub fn scope_members(alloc: Global, ctx: &Context, scope: Scope) -> Result<Vec<u32>, AllocError>
+// The ranks of a scope in scope order.
+fn listed(alloc: Global, ctx: &Context, scope: Scope) -> Result<Vec<u32>, AllocError>
     requires { IsScopeOf ctx.now scope }
     ensures { IfOk result (λ ranks. ranks.items ≡ members ctx.now scope) }
 {
@@ -24,4 +25,42 @@ pub fn scope_members(alloc: Global, ctx: &Context, scope: Scope) -> Result<Vec<u
         Scope::Column(column) => ctx.column_members(alloc, column),
         Scope::All => ctx.all_members(alloc),
     }
+}
+
+/// The ranks of a scope in scope order: by increasing coordinate, and row-major for the whole grid.
+pub fn scope_members(alloc: Global, ctx: &Context, scope: Scope) -> Result<Vec<u32>, AllocError>
+    requires { IsScopeOf ctx.now scope }
+    ensures members { IfOk result (λ ranks. ranks.items ≡ members ctx.now scope) }
+    ensures distinct { IfOk result (λ ranks. AreDistinct ranks.items) }
+    ensures few { IfOk result (λ ranks. length ranks.items ≤ 64) }
+{
+    ctx.is_grid();
+    let ranks = listed(alloc, ctx, scope)?;
+    Ok(ranks)
+}
+
+// Where a place of the grid stands in the scope, if it is a member.
+fn position(ctx: &Context, scope: Scope, place: (u32, u32)) -> Option<u32>
+    ensures position { result ≡ position_in ctx.now scope place }
+    ensures grid { IsGrid ctx.now }
+{
+    let Some(_rank) = ctx.rank_at(place.0, place.1) else {
+        return None;
+    };
+    match scope {
+        Scope::Row(row) if place.0 == row => Some(place.1),
+        Scope::Column(column) if place.1 == column => Some(place.0),
+        Scope::All => Some(place.0 * ctx.npcol() + place.1),
+        _ => None,
+    }
+}
+
+/// The position of a place in the scope list, counted from 0. None exactly where the place isn't in the grid or no
+/// member of the scope.
+pub fn scope_position(ctx: &Context, scope: Scope, place: (u32, u32)) -> Option<u32>
+    ensures position { result ≡ position_in ctx.now scope place }
+    ensures member { (k : ℕ) → (result ≡ Some k) ↔ IsPosition ctx.now scope place k }
+    ensures grid { IsGrid ctx.now }
+{
+    position(ctx, scope, place)
 }

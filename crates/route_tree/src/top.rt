@@ -1,6 +1,7 @@
 //! The topologies of broadcasts and combines.
-ghost use Rattle.std.specs.Prelude.{◌≡◌};
+ghost use Rattle.std.specs.Prelude.{◌≡◌, IfSome};
 ghost use Rattle.route_tree.specs.Letters.{top_of};
+ghost use Rattle.route_tree.specs.Parents.{HasBranches};
 
 /// A topology, by the letter that the BLACS give it.
 #[derive(Clone, Copy, Debug, PartialEq, Eq)]
@@ -25,7 +26,8 @@ impl Top {
     /// The topology of a character: a letter in either case, a digit 1 to 9 for the tree with so many branches, a
     /// blank for the hypercube. T is the tree with two branches. None exactly for any other character.
     pub fn read(c: char) -> Option<Top>
-        ensures { result ≡ top_of c }
+        ensures topology { result ≡ top_of c }
+        ensures branches { IfSome result HasBranches }
     {
         match c {
             'I' | 'i' => Some(Top::I),

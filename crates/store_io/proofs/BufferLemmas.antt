@@ -1,17 +1,52 @@
 -- Laws of files in one buffer.
-use Rattle.std.proofs.Common.{◌≡◌, ◌≢◌, ℕ, zero, suc, ◌+◌, ◌-◌, ◌<◌, ◌≤◌, Bool, true, false, cond, List, [], ◌∷◌, ◌++◌, length, take, drop, get_or, set, refl, sym, ap, ◌∙◌, arith, Option, None, Some, append_assoc, inl, inr}
+use Rattle.std.proofs.Common.{◌≡◌, ◌≢◌, ℕ, zero, suc, ◌+◌, ◌-◌, ◌<◌, ◌≤◌, Bool, true, false, cond, List, [], ◌∷◌, ◌++◌, length, map, take, drop, get_or, set, refl, sym, ap, subst, ◌∙◌, arith, Option, None, Some, append_assoc, inl, inr}
 use Rattle.std.specs.Prelude.{slice_range}
 use Rattle.std.specs.List.{AllByRecursion}
 use Rattle.std.specs.Ordering.{nat_cmp, eq_by_cmp}
 use Rattle.std.specs.Cmp.Lexicographic.{slice_cmp}
 use Rattle.std.specs.FinMap.{get, insert, empty, get-empty}
-use Rattle.std.proofs.lemmas.List.{drop_more, drop_all, take-append-le, take-take, length-take-le, length-append, length-drop, length-set, take_at, drop-append-le, drop-drop, drop-set, drop-set-lt, get_or-set_same, get_or-set_other}
+use Rattle.std.proofs.lemmas.List.{map-append, drop_more, drop_all, take-append-le, take-take, length-take-le, length-append, length-drop, length-set, take_at, drop-append-le, drop-take, drop-drop, drop-set, drop-set-lt, get_or-set_same, get_or-set_other}
 use Rattle.std.proofs.lemmas.Slice.{between_is, drop-append-drop}
 use Rattle.std.proofs.lemmas.Bool.{cases_lt}
 use Rattle.store_io.specs.Outside.{appended, grown}
-use Rattle.store_io.specs.Buffer.{files_of, name_of, content_of, front_name, IsClear, IsPart, IsPlaced, FrontEnds, Begins, Grows, Lays, Stands, KeepsClear}
+use Rattle.store_io.specs.Fails.{Fail}
+use Rattle.store_io.specs.Buffer.{files_of, name_of, content_of, front_name, part_of, fail_of, names_of, IsClear, IsPart, FitsIn, IsPlaced, FrontEnds, KeepsClear}
+use Rattle.store_io.specs.declared.fails.Part.{Part}
+use Rattle.store_io.specs.declared.fails.FailEntry.{FailEntry}
 use Rattle.store_io.specs.declared.buffer.Entry.{Entry}
 use Rattle.store_io.proofs.FilesLemmas.{get_inserted, get_same, insert-insert, insert-swap, appended_new, same_name, take_add}
+
+-- a new empty file stands before the others
+pub record Begins (used back : ℕ) (name old new : List ℕ) (older entries : List Entry) : Type 0 where
+  pub files : files_of new entries ≡ insert (files_of old older) name []
+  pub front : front_name new entries ≡ name
+  pub placed : AllByRecursion (IsPlaced (used + length name) back (length new)) entries
+  pub ends : FrontEnds (used + length name) entries
+  pub clear : KeepsClear used back old new
+
+-- the newest file has grown by a piece
+pub record Grows (used back : ℕ) (piece old new : List ℕ) (before after : List Entry) : Type 0 where
+  pub files : files_of new after ≡ appended (files_of old before) (front_name old before) piece
+  pub front : front_name new after ≡ front_name old before
+  pub placed : AllByRecursion (IsPlaced (used + length piece) back (length new)) after
+  pub ends : FrontEnds (used + length piece) after
+  pub clear : KeepsClear used back old new
+
+-- a new file stands before the others
+pub record Stands (used back : ℕ) (name content old new : List ℕ) (older entries : List Entry) : Type 0 where
+  pub files : files_of new entries ≡ insert (files_of old older) name content
+  pub front : front_name new entries ≡ name
+  pub placed : AllByRecursion (IsPlaced (used + length name + length content) back (length new)) entries
+  pub ends : FrontEnds (used + length name + length content) entries
+  pub clear : KeepsClear used back old new
+
+-- a whole file stands at the back of the free bytes, behind the newest one
+pub record Lays (used at : ℕ) (name content old new : List ℕ) (before after : List Entry) : Type 0 where
+  pub files : files_of new after ≡ insert (files_of old before) name content
+  pub front : front_name new after ≡ front_name old before
+  pub placed : AllByRecursion (IsPlaced used at (length new)) after
+  pub ends : FrontEnds used after
+  pub clear : KeepsClear used (at + (length name + length content)) old new
 
 -- ---- what stands at a name
 
@@ -46,8 +81,12 @@ pub clear_less : (u v b c i j : ℕ) → u ≤ v → c ≤ b → IsClear u b i j
 clear_less u v b c i j low high (inl le) = inl (omega arith)
 clear_less u v b c i j low high (inr le) = inr (omega arith)
 
-pub part_less : (u v b c t i j : ℕ) → u ≤ v → c ≤ b → IsPart u b t i j → IsPart v c t i j
-part_less u v b c t i j low high p = record { order = p.order; fits = p.fits; clear = clear_less u v b c i j low high p.clear }
+pub part_less : (u v b c t n : ℕ) (p : Part) → u ≤ v → c ≤ b → t ≤ n → IsPart u b t p → IsPart v c n p
+part_less u v b c t n p low high fits is = record { order = is.order; fits = omega (arith, is.fits); clear = clear_less u v b c p.from p.to low high is.clear }
+
+pub parts_less : (u v b c t n : ℕ) (ps : List Part) → u ≤ v → c ≤ b → t ≤ n → AllByRecursion (IsPart u b t) ps → AllByRecursion (IsPart v c n) ps
+parts_less u v b c t n [] low high fits all = tt
+parts_less u v b c t n (p ∷ ps) low high fits all = (part_less u v b c t n p low high fits all.0, parts_less u v b c t n ps low high fits all.1)
 
 pub placed_less : (u v b c t n : ℕ) (es : List Entry) → u ≤ v → c ≤ b → t ≤ n → AllByRecursion (IsPlaced u b t) es → AllByRecursion (IsPlaced v c n) es
 placed_less u v b c t n [] low high fits all = tt
@@ -95,6 +134,11 @@ files_kept old new u b t (e ∷ es) keeps all =
     last_part : (u b i j k : ℕ) → i ≤ j → j ≤ k → IsClear u b i k → IsClear u b j k
     last_part u b i j k ij jk (inl le) = inl le
     last_part u b i j k ij jk (inr le) = inr (omega arith)
+
+-- so do all fails
+pub fails_kept : (old new : List ℕ) (u b t : ℕ) (es : List FailEntry) → KeepsClear u b old new → AllByRecursion (IsPart u b t) (names_of es) → map (fail_of new) es ≡ map (fail_of old) es
+fails_kept old new u b t [] keeps all = refl
+fails_kept old new u b t (e ∷ es) keeps all = rw (keeps e.name.from e.name.to all.0.clear, fails_kept old new u b t es keeps all.1) refl
 
 -- a part that ends at the place grows by what is put there
 pub part_grows : (bytes piece rest : List ℕ) (u i : ℕ) → u ≤ length bytes → i ≤ u → slice_range (take u bytes ++ (piece ++ rest)) i (u + length piece) ≡ slice_range bytes i u ++ piece
@@ -162,10 +206,15 @@ begun bytes name u b older room fits all =
       clear = keeps;
     }
 
-pub begins : (bytes name : List ℕ) (u b : ℕ) (entries : List Entry) (place : ℕ) → u + length name ≤ b → b ≤ length bytes → place < length entries → AllByRecursion (IsPlaced u b (length bytes)) (drop (place + 1) entries)
-    → Begins u b name bytes (with_piece bytes u name) (drop (place + 1) entries) (drop place (set entries place (record { name_at = u; at = u + length name; end = u + length name })))
-begins bytes name u b entries place room fits lt all =
-    rw (drop-set entries place (let e : Entry = record { name_at = u; at = u + length name; end = u + length name } in e) lt) (begun bytes name u b (drop (place + 1) entries) room fits all)
+-- a new entry before the others
+pub front_set : (es : List Entry) (place first : ℕ) (e : Entry) → place + 1 ≡ first → first ≤ length es → drop place (set es place e) ≡ e ∷ drop first es
+front_set es place first e next le = drop-set es place e (omega arith) ∙ ap (λ (n : ℕ). e ∷ drop n es) next
+
+pub begins : (bytes new name : List ℕ) (u b : ℕ) (entries : List Entry) (place first : ℕ) → u + length name ≤ b → b ≤ length bytes → place + 1 ≡ first → first ≤ length entries → AllByRecursion (IsPlaced u b (length bytes)) (drop first entries)
+    → new ≡ with_piece bytes u name
+    → Begins u b name bytes new (drop first entries) (drop place (set entries place (record { name_at = u; at = u + length name; end = u + length name })))
+begins bytes new name u b entries place first room fits next le all is =
+    rw (is, front_set entries place first (let e : Entry = record { name_at = u; at = u + length name; end = u + length name } in e) next le) (begun bytes name u b (drop first entries) room fits all)
 
 -- ---- the newest file grows
 
@@ -196,26 +245,42 @@ grown_on bytes piece u b e es room fits all front =
       clear = keeps;
     }
 
-pub grows : (bytes piece : List ℕ) (u b : ℕ) (entries : List Entry) (place : ℕ) (d : Entry) → u + length piece ≤ b → b ≤ length bytes → place < length entries → AllByRecursion (IsPlaced u b (length bytes)) (drop place entries) → FrontEnds u (drop place entries)
-    → Grows u b piece bytes (with_piece bytes u piece) (drop place entries) (drop place (set entries place (record (get_or entries place d) { end = u + length piece })))
-grows bytes piece u b entries place d room fits lt all front =
+pub grows : (bytes new piece : List ℕ) (u b : ℕ) (entries : List Entry) (place : ℕ) (d : Entry) → u + length piece ≤ b → b ≤ length bytes → AllByRecursion (IsPlaced u b (length bytes)) (drop place entries) → FrontEnds u (drop place entries) → place < length entries
+    → new ≡ with_piece bytes u piece
+    → Grows u b piece bytes new (drop place entries) (drop place (set entries place (record (get_or entries place d) { end = u + length piece })))
+grows bytes new piece u b entries place d room fits all front lt is =
     let e : drop place entries ≡ get_or entries place d ∷ drop (place + 1) entries = drop_more entries place d lt in
     let all' : AllByRecursion (IsPlaced u b (length bytes)) (get_or entries place d ∷ drop (place + 1) entries) = rw e at all in
     let front' : FrontEnds u (get_or entries place d ∷ drop (place + 1) entries) = rw e at front in
-    rw (drop-set entries place (let n : Entry = record (get_or entries place d) { end = u + length piece } in n) lt, e) (grown_on bytes piece u b (get_or entries place d) (drop (place + 1) entries) room fits all' front')
+    rw (is, drop-set entries place (let n : Entry = record (get_or entries place d) { end = u + length piece } in n) lt, e) (grown_on bytes piece u b (get_or entries place d) (drop (place + 1) entries) room fits all' front')
 
 -- ---- a new file, first empty and then with its bytes
 
-pub stands : (old mid new name content : List ℕ) (u b : ℕ) (older first entries : List Entry) → Begins u b name old mid older first → Grows (u + length name) b content mid new first entries → Stands u b name content old new older entries
-stands old mid new name content u b older first entries begins grows =
-    let same : u + length name + length content ≡ u + (length name + length content) = omega arith in
-    record {
-      files = grows.files ∙ ap (λ n. appended (files_of mid first) n content) begins.front ∙ ap (λ m. appended m name content) begins.files ∙ appended_new (files_of old older) name content;
-      front = grows.front ∙ begins.front;
-      placed = placed_less (u + length name + length content) (u + (length name + length content)) b b (length new) (length new) entries (omega arith) (omega arith) (omega arith) grows.placed;
-      ends = rw (← same) grows.ends;
-      clear = λ i j c. grows.clear i j (clear_less u (u + length name) b b i j (omega arith) (omega arith) c) ∙ begins.clear i j c;
-    }
+stands : (old mid new name content : List ℕ) (u b : ℕ) (older first entries : List Entry) → Begins u b name old mid older first → Grows (u + length name) b content mid new first entries → Stands u b name content old new older entries
+stands old mid new name content u b older first entries begins grows = record {
+  files = grows.files ∙ ap (λ n. appended (files_of mid first) n content) begins.front ∙ ap (λ m. appended m name content) begins.files ∙ appended_new (files_of old older) name content;
+  front = grows.front ∙ begins.front;
+  placed = grows.placed;
+  ends = grows.ends;
+  clear = λ i j c. grows.clear i j (clear_less u (u + length name) b b i j (omega arith) (omega arith) c) ∙ begins.clear i j c;
+}
+
+stood : (bytes mid new name content : List ℕ) (u b : ℕ) (older : List Entry) → u + (length name + length content) ≤ b → b ≤ length bytes → AllByRecursion (IsPlaced u b (length bytes)) older → mid ≡ with_piece bytes u name → new ≡ with_piece mid (u + length name) content
+    → Stands u b name content bytes new older (record { name_at = u; at = u + length name; end = u + length name + length content } ∷ older)
+unfolding FrontEnds
+stood bytes mid new name content u b older room fits all first second =
+    let e : Entry = record { name_at = u; at = u + length name; end = u + length name } in
+    let begins : Begins u b name bytes mid older (e ∷ older) = rw first (begun bytes name u b older (omega arith) fits all) in
+    let len : length mid ≡ length bytes = ap length first ∙ length-with_piece bytes name u (omega arith) in
+    let more : Grows (u + length name) b content mid new (e ∷ older) (record { name_at = u; at = u + length name; end = u + length name + length content } ∷ older)
+    = rw second (grown_on mid content (u + length name) b e older (omega arith) (omega (arith, len)) begins.placed begins.ends) in
+    stands bytes mid new name content u b older (e ∷ older) _ begins more
+
+pub stands_first : (bytes mid new name content : List ℕ) (u b : ℕ) (entries : List Entry) (place first : ℕ) → u + (length name + length content) ≤ b → b ≤ length bytes → place + 1 ≡ first → first ≤ length entries → AllByRecursion (IsPlaced u b (length bytes)) (drop first entries)
+    → mid ≡ with_piece bytes u name → new ≡ with_piece mid (u + length name) content
+    → Stands u b name content bytes new (drop first entries) (drop place (set entries place (record { name_at = u; at = u + length name; end = u + length name + length content })))
+stands_first bytes mid new name content u b entries place first room fits next le all is then =
+    rw (front_set entries place first (let e : Entry = record { name_at = u; at = u + length name; end = u + length name + length content } in e) next le) (stood bytes mid new name content u b (drop first entries) room fits all is then)
 
 -- ---- a whole file behind the newest one
 
@@ -268,17 +333,22 @@ entries_laid es place d e lt =
     let tail : drop (place + 1) (set first (place + 1) e) ≡ e ∷ drop (place + 1 + 1) es = drop-set first (place + 1) e (omega (arith, len)) ∙ ap (λ xs. e ∷ xs) (drop-set-lt (place + 1 + 1) es place f (omega arith)) in
     drop_more (set first (place + 1) e) place d (omega (arith, len')) ∙ ap (λ x. x ∷ drop (place + 1) (set first (place + 1) e)) head ∙ ap (λ xs. f ∷ xs) tail
 
-pub lays : (bytes name content : List ℕ) (u a : ℕ) (entries : List Entry) (place : ℕ) (d : Entry) → u ≤ a → a + (length name + length content) ≤ length bytes → place + 1 < length entries
-    → AllByRecursion (IsPlaced u (a + (length name + length content)) (length bytes)) (drop (place + 1) entries) → FrontEnds u (drop (place + 1) entries) → front_name bytes (drop (place + 1) entries) ≢ name
-    → Lays u a name content bytes (with_piece (with_piece bytes a name) (a + length name) content) (drop (place + 1) entries)
-    (drop place (set (set entries place (get_or entries (place + 1) d)) (place + 1) (record { name_at = a; at = a + length name; end = a + length name + length content })))
-lays bytes name content u a entries place d low fits lt all front other =
-    let e : drop (place + 1) entries ≡ get_or entries (place + 1) d ∷ drop (place + 1 + 1) entries = drop_more entries (place + 1) d lt in
+pub lays : (bytes mid new name content : List ℕ) (u a b : ℕ) (entries : List Entry) (place first : ℕ) (d : Entry) → u ≤ a → a + (length name + length content) ≡ b → b ≤ length bytes → place + 1 ≡ first → first < length entries
+    → AllByRecursion (IsPlaced u b (length bytes)) (drop first entries) → FrontEnds u (drop first entries) → front_name bytes (drop first entries) ≢ name
+    → mid ≡ with_piece bytes a name → new ≡ with_piece mid (a + length name) content
+    → Lays u a name content bytes new (drop first entries)
+    (drop place (set (set entries place (get_or entries first d)) first (record { name_at = a; at = a + length name; end = a + length name + length content })))
+lays bytes mid new name content u a b entries place first d low size fits next lt all front other is then =
+    let e : drop first entries ≡ get_or entries first d ∷ drop (first + 1) entries = drop_more entries first d lt in
     let n : Entry = record { name_at = a; at = a + length name; end = a + length name + length content } in
-    let all' : AllByRecursion (IsPlaced u (a + (length name + length content)) (length bytes)) (get_or entries (place + 1) d ∷ drop (place + 1 + 1) entries) = rw e at all in
-    let front' : FrontEnds u (get_or entries (place + 1) d ∷ drop (place + 1 + 1) entries) = rw e at front in
-    let other' : front_name bytes (get_or entries (place + 1) d ∷ drop (place + 1 + 1) entries) ≢ name = rw e at other in
-    rw (entries_laid entries place d n lt, e) (laid bytes name content u a (get_or entries (place + 1) d) (drop (place + 1 + 1) entries) low fits all' front' other')
+    let placed : AllByRecursion (IsPlaced u b (length bytes)) (get_or entries first d ∷ drop (first + 1) entries) = rw e at all in
+    let all' : AllByRecursion (IsPlaced u (a + (length name + length content)) (length bytes)) (get_or entries first d ∷ drop (first + 1) entries) = subst (λ (n : ℕ). AllByRecursion (IsPlaced u n (length bytes)) (get_or entries first d ∷ drop (first + 1) entries)) (sym size) placed in
+    let front' : FrontEnds u (get_or entries first d ∷ drop (first + 1) entries) = rw e at front in
+    let other' : front_name bytes (get_or entries first d ∷ drop (first + 1) entries) ≢ name = rw e at other in
+    rw (then, is, laid_entries entries place first d n next lt, e) (laid bytes name content u a (get_or entries first d) (drop (first + 1) entries) low (omega arith) all' front' other')
+  where
+    laid_entries : (es : List Entry) (place first : ℕ) (d e : Entry) → place + 1 ≡ first → first < length es → drop place (set (set es place (get_or es first d)) first e) ≡ get_or es first d ∷ e ∷ drop (first + 1) es
+    laid_entries es place first d e next lt = rw (← next) (entries_laid es place d e (omega arith))
 
 -- ---- the open output
 
@@ -293,3 +363,76 @@ front_held u i es h = elim (cases_lt i (length es)) [ inl lt ↦ lt | inr le ↦
 pub no_files : (bytes : List ℕ) (es : List Entry) (i : ℕ) → length es ≤ i → files_of bytes (drop i es) ≡ empty
 unfolding files_of
 no_files bytes es i le = rw (drop_all i es le) refl
+
+-- the newest name stays, too
+pub front_kept : (old new : List ℕ) (u b t : ℕ) (es : List Entry) → KeepsClear u b old new → AllByRecursion (IsPlaced u b t) es → front_name new es ≡ front_name old es
+unfolding front_name
+front_kept old new u b t [] keeps all = refl
+front_kept old new u b t (e ∷ es) keeps all = keeps e.name_at e.at (below u b e.name_at e.at e.end all.0.name all.0.content all.0.clear)
+  where
+    below : (u b i j k : ℕ) → i ≤ j → j ≤ k → IsClear u b i k → IsClear u b i j
+    below u b i j k ij jk (inl le) = inl (omega arith)
+    below u b i j k ij jk (inr le) = inr le
+
+-- ---- one more call that is to fail
+
+pub fails_more : (old new name : List ℕ) (u b t p : ℕ) (fails : List FailEntry) (e : FailEntry) → KeepsClear u b old new → AllByRecursion (IsPart u b t) (names_of fails) → p + length name ≤ length old → new ≡ with_piece old p name → e.name ≡ record { from = p; to = p + length name }
+    → map (fail_of new) (fails ++ e ∷ []) ≡ map (fail_of old) fails ++ record { kind = e.kind; name = name; nth = e.nth } ∷ []
+fails_more old new name u b t p fails e keeps all fits is named =
+    let read : part_of new e.name ≡ name = rw (named, is) (piece_read old name p (omega arith)) in
+    map-append (fail_of new) fails (e ∷ []) ∙ ap (λ (fs : List Fail). fs ++ fail_of new e ∷ []) (fails_kept old new u b t fails keeps all)
+    ∙ ap (λ (n : List ℕ). map (fail_of old) fails ++ record { kind = e.kind; name = n; nth = e.nth } ∷ []) read
+
+pub names_more : (P : Part → Type 0) (es : List FailEntry) (e : FailEntry) → AllByRecursion P (names_of es) → P e.name → AllByRecursion P (names_of (es ++ e ∷ []))
+names_more P [] e all one = (one, tt)
+names_more P (x ∷ es) e all one = (all.0, names_more P es e all.1 one)
+
+-- ---- the newest entry, and what is put in its place
+
+pub newest_placed : (u b t first : ℕ) (es : List Entry) (e : Entry) → AllByRecursion (IsPlaced u b t) (drop first es) → FrontEnds u (drop first es) → e ≡ get_or es first e → IsPlaced u b t e
+newest_placed u b t first es e all front is = subst (IsPlaced u b t) (sym is) (placed_front u b t first es e all (front_held u first es front))
+
+pub newest_name : (bytes : List ℕ) (u first : ℕ) (es : List Entry) (e : Entry) → FrontEnds u (drop first es) → e ≡ get_or es first e → front_name bytes (drop first es) ≡ name_of bytes e
+newest_name bytes u first es e front is = front_name_is bytes first es e (front_held u first es front) ∙ ap (name_of bytes) (sym is)
+
+pub grows_newest : (bytes new piece : List ℕ) (u b : ℕ) (entries : List Entry) (place : ℕ) (e : Entry) → u + length piece ≤ b → b ≤ length bytes → AllByRecursion (IsPlaced u b (length bytes)) (drop place entries) → FrontEnds u (drop place entries) → e ≡ get_or entries place e
+    → new ≡ with_piece bytes u piece
+    → Grows u b piece bytes new (drop place entries) (drop place (set entries place (record { name_at = e.name_at; at = e.at; end = u + length piece })))
+grows_newest bytes new piece u b entries place e room fits all front was is =
+    subst (λ (x : Entry). Grows u b piece bytes new (drop place entries) (drop place (set entries place (record { name_at = x.name_at; at = x.at; end = u + length piece })))) (sym was)
+    (grows bytes new piece u b entries place e room fits all front (front_held u place entries front) is)
+
+pub lays_newest : (bytes mid new name content : List ℕ) (u a b : ℕ) (entries : List Entry) (place first : ℕ) (e : Entry) → u ≤ a → a + (length name + length content) ≡ b → b ≤ length bytes → place + 1 ≡ first
+    → AllByRecursion (IsPlaced u b (length bytes)) (drop first entries) → FrontEnds u (drop first entries) → front_name bytes (drop first entries) ≢ name → e ≡ get_or entries first e
+    → mid ≡ with_piece bytes a name → new ≡ with_piece mid (a + length name) content
+    → Lays u a name content bytes new (drop first entries)
+    (drop place (set (set entries place e) first (record { name_at = a; at = a + length name; end = a + length name + length content })))
+lays_newest bytes mid new name content u a b entries place first e low size fits next all front other was is then =
+    subst (λ (x : Entry). Lays u a name content bytes new (drop first entries) (drop place (set (set entries place x) first (record { name_at = a; at = a + length name; end = a + length name + length content })))) (sym was)
+    (lays bytes mid new name content u a b entries place first e low size fits next (front_held u first entries front) all front other is then)
+
+-- ---- a part of which some bytes were taken
+
+pub part_rest : (bytes : List ℕ) (i j k : ℕ) → i + k ≤ j → slice_range bytes (i + k) j ≡ drop k (slice_range bytes i j)
+part_rest bytes i j k le =
+    let whole : j - i ≡ k + (j - (i + k)) = omega arith in
+    let rest : drop k (drop i bytes) ≡ drop (i + k) bytes = drop-drop k i bytes in
+    rw (whole, drop-take k (j - (i + k)) (drop i bytes), rest) refl
+
+pub part_after : (u b t : ℕ) (p : Part) (k : ℕ) → p.from + k ≤ p.to → IsPart u b t p → IsPart u b t (record { from = p.from + k; to = p.to })
+part_after u b t p k le is = record { order = le; fits = is.fits; clear = after u b p.from p.to is.clear }
+  where
+    after : (u b i j : ℕ) → IsClear u b i j → IsClear u b (i + k) j
+    after u b i j (inl h) = inl h
+    after u b i j (inr h) = inr (omega arith)
+
+pub fits_in : (u b t : ℕ) (ps : List Part) → AllByRecursion (IsPart u b t) ps → AllByRecursion (FitsIn t) ps
+fits_in u b t [] all = tt
+fits_in u b t (p ∷ ps) all = (record { order = all.0.order; fits = all.0.fits }, fits_in u b t ps all.1)
+
+pub part_ended : (bytes : List ℕ) (i j k : ℕ) → i + k ≤ j → slice_range bytes i j ≡ [] → slice_range bytes (i + k) j ≡ []
+part_ended bytes i j k le none = part_rest bytes i j k le ∙ ap (drop k) none ∙ drop_all k [] (omega arith)
+
+pub no_front_name : (bytes : List ℕ) (es : List Entry) (i : ℕ) → length es ≤ i → front_name bytes (drop i es) ≡ []
+unfolding front_name
+no_front_name bytes es i le = rw (drop_all i es le) refl

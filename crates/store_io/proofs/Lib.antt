@@ -1,2 +1,4 @@
 pub mod FilesLemmas
 pub mod BufferLemmas
+pub mod FailLemmas
+pub mod HeldLemmas

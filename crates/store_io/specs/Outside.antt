@@ -31,6 +31,10 @@ pub record Outside : Type 0 where
 abbrev pub Rose : ℕ → ℕ → Type 0
 Rose before now = min (before + 1) (2 ^ 64 - 1) ≤ now
 
+-- a count is one more than before, or stays at its last value
+abbrev pub OneMore : ℕ → ℕ → Type 0
+OneMore before now = now ≡ min (before + 1) (2 ^ 64 - 1)
+
 -- the files with these bytes at the end of one of them; no file is made
 abbrev pub grown : Option (List ℕ) → Files → List ℕ → List ℕ → Files
 grown None files name bytes = files

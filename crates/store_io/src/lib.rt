@@ -2,7 +2,9 @@
 #![tactic(auto)]
 
 mod buffer;
+mod call_kind;
 mod dir_store;
+mod fails;
 mod helpers;
 mod mem_sink;
 mod mem_store;
@@ -10,6 +12,7 @@ mod sink;
 mod std_sink;
 mod store;
 
+pub use call_kind::CallKind;
 pub use dir_store::DirStore;
 pub use helpers::{sink_all, store_all};
 pub use mem_sink::MemSink;

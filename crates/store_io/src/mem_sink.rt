@@ -1,7 +1,7 @@
 //! A sink in memory, in room that is taken at the start.
 ghost use Rattle.std.specs.Prelude.{◌≡◌, ◌≤◌, ◌<◌, ◌+◌, ◌-◌, ◌++◌, ◌↔◌, [], ℕ, length, take, min, true, IsTrue, IsErr, IfOk, OnOk, OnErr};
-ghost use Rattle.store_io.specs.Outside.{GivesCause, GrewByFront};
-ghost use Rattle.store_io.specs.MemState.{IsFull};
+ghost use Rattle.store_io.specs.Outside.{GivesCause, GrewByFront, OneMore};
+ghost use Rattle.store_io.specs.MemState.{RefusesWrite};
 
 use crate::buffer::put_at;
 use crate::{Sink, SinkErr};
@@ -10,12 +10,15 @@ use std::marker::Model;
 
 /// A sink of fixed room, which tells what it took.
 ///
-/// It counts a fault only where a piece that isn't empty finds no room left. The count stops at its last value.
+/// It counts a fault only for a write that was to fail, or where a piece that isn't empty finds no room left. The count
+/// stops at its last value.
 #[derive(Drop)]
 pub struct MemSink {
     bytes: Vec<u8>,
     used: usize,
     faults: u64,
+    // the write that fails, counted from now on; 0 where none does
+    due: u32,
 }
 
 impl Model for MemSink {
@@ -39,12 +42,14 @@ impl MemSink {
         ensures empty { IfOk result (λ s. s.poured.bytes ≡ []) }
         ensures no_fault { IfOk result (λ s. s.poured.faults ≡ 0) }
         ensures room { IfOk result (λ s. s.room ≡ room) }
+        ensures none_due { IfOk result (λ s. s.due ≡ 0) }
     {
         let bytes = vec![in alloc; 0u8; room]?;
         Ok(MemSink {
             bytes,
             used: 0,
             faults: 0,
+            due: 0,
         })
     }
 
@@ -53,6 +58,13 @@ impl MemSink {
         ensures { result.now ≡ self.now.poured.bytes }
     {
         &self.bytes[..self.used]
+    }
+
+    /// Lets the nth write, counted from 1 and from now on, fail. It takes the place of an earlier `fail`; 0 lets none fail.
+    pub fn fail(&mut self, nth: u32)
+        ensures { self.new ≡ record self.old { due = nth } }
+    {
+        self.due = nth;
     }
 
     /// How many writes failed.
@@ -66,14 +78,16 @@ impl MemSink {
 impl Sink for MemSink {
     ghost state = { λ s. s.poured };
 
-    /// Takes as much of the piece as fits. It fails, and takes nothing, exactly where the piece isn't empty
-    /// and no room is left.
+    /// Takes as much of the piece as fits. It fails, and takes nothing, exactly where this write was to fail, or where
+    /// the piece isn't empty and no room is left.
     fn write(&mut self, piece: &[u8]) -> Result<usize, SinkErr>
-        ensures fails { IsErr result ↔ IsFull self.old.room piece.now }
+        ensures fails { IsErr result ↔ RefusesWrite self.old piece.now }
         ensures fits { IfOk result (λ k. k ≡ min (length piece.now) self.old.room) }
         ensures room { IfOk result (λ k. self.new.room + k ≡ self.old.room) }
         ensures no_room { OnErr result (self.new.room ≡ self.old.room) }
         ensures nothing { OnErr result (self.new.poured.bytes ≡ self.old.poured.bytes) }
+        ensures due { self.new.due ≡ self.old.due - 1 }
+        ensures faults { OnErr result (OneMore self.old.poured.faults self.new.poured.faults) }
         ensures bound { IfOk result (λ k. k ≤ length piece.now) }
         ensures progress { IfOk result (λ k. 0 < length piece.now → 0 < k) }
         ensures written { IsTrue self.old.poured.told →
@@ -83,8 +97,10 @@ impl Sink for MemSink {
         ensures same { self.new.poured.told ≡ self.old.poured.told }
         ensures cause { GivesCause self.old.poured self.new.poured result }
     {
+        let is_due = self.due == 1;
+        self.due = self.due.saturating_sub(1);
         let count = piece.len().min(self.bytes.len() - self.used);
-        if count == 0 && !piece.is_empty() {
+        if is_due || (count == 0 && !piece.is_empty()) {
             self.faults = self.faults.saturating_add(1);
             return Err(SinkErr::Failed);
         }

@@ -1,7 +1,7 @@
 //! A store of files by name, and what each of its calls promises.
 ghost use Rattle.std.specs.Prelude.{◌≡◌, ◌≤◌, ◌<◌, ◌++◌, [], ℕ, length, take, Some, None, IfOk, OnOk, OnErr, IsTrue, IsErrOf, false, true};
 ghost use Rattle.std.specs.FinMap.{get, insert};
-ghost use Rattle.store_io.specs.Outside.{Outside, SameStore, KeepsFiles, HasCause, WritesOn, WritesFront, Rose, KeepsOutput, IsEither};
+ghost use Rattle.store_io.specs.Outside.{Outside, SameStore, KeepsFiles, HasCause, WritesOn, WritesFront, Rose, OneMore, KeepsOutput, IsEither};
 
 use thiserror::Error;
 
@@ -71,7 +71,7 @@ pub trait Store {
             ((state self.new).files ≡ insert (state self.old).files name.now [])) }
         ensures closed { OnErr result ((state self.new).writing ≡ false) }
         ensures only_failed { IsErrOf result StoreErr.Missing → ⊥ }
-        ensures counted { Rose (state self.old).opens (state self.new).opens }
+        ensures counted { OneMore (state self.old).opens (state self.new).opens }
         ensures left { IsTrue (state self.old).told → (state self.new).left ≡ (state self.old).left }
         ensures reading { (state self.new).reading ≡ (state self.old).reading }
         ensures cause { HasCause (state self.old) (state self.new) result }

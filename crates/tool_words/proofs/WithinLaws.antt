@@ -4,7 +4,8 @@ use Rattle.std.specs.Prelude.{option_and_then, IfSome}
 use Rattle.std.specs.Option.{option_map}
 use Rattle.std.proofs.lemmas.Bool.{leb-true}
 use Rattle.tool_words.specs.Given.{Text, Given, sorted}
-use Rattle.tool_words.specs.CommandWords.{is_name, number_within, how_by, how_of, with_numbers, target_of, split_of, join_of, move_of, check_of, run_of, load_of, asked_by, asked_of, command_of, command_named, asked}
+use Rattle.tool_words.specs.FileName.{is_name}
+use Rattle.tool_words.specs.CommandWords.{number_within, how_by, how_of, with_numbers, target_of, split_of, join_of, move_of, check_of, run_of, load_of, asked_by, asked_of, command_of, command_named, asked}
 use Rattle.tool_words.specs.Within.{IsTarget, IsHow, IsWithin}
 use Rattle.tool_words.specs.declared.command.Command.{Command}
 use Rattle.tool_words.specs.declared.command.Command.TheVariants as command
@@ -31,11 +32,6 @@ mapped f (Some x) a e = (x, (refl, some_is (f x) a e))
 followed : {X Y : Type 0} (f : X → Option Y) (o : Option X) (a : Y) → option_and_then f o ≡ Some a → (x : X) × ((o ≡ Some x) × (f x ≡ Some a))
 followed f None a e = absurd cc
 followed f (Some x) a e = (x, (refl, e))
-
-both : (a b : Bool) → (a && b) ≡ true → (a ≡ true) × (b ≡ true)
-both true true e = (refl, refl)
-both true false e = absurd cc
-both false b e = absurd cc
 
 -- ---- numbers
 
@@ -87,8 +83,7 @@ unfolding split_of
 split_within (i ∷ o ∷ p ∷ q ∷ mb ∷ nb ∷ []) r e =
     let names = chosen (is_name i && is_name o) (option_map (λ t. Split i o t.p t.q t.mb t.nb) (target_of p q mb nb)) r e in
     let target = mapped (λ t. Split i o t.p t.q t.mb t.nb) (target_of p q mb nb) r names.1 in
-    let each = both (is_name i) (is_name o) names.0 in
-    subst (By command.Split) target.1.1 ((each.0, each.1, target_within p q mb nb target.0 target.1.0), refl)
+    subst (By command.Split) target.1.1 (target_within p q mb nb target.0 target.1.0, refl)
 split_within [] r e = absurd cc
 split_within (a ∷ []) r e = absurd cc
 split_within (a ∷ b ∷ []) r e = absurd cc
@@ -102,8 +97,7 @@ unfolding move_of
 move_within (i ∷ o ∷ p ∷ q ∷ mb ∷ nb ∷ []) how r k e =
     let names = chosen (is_name i && is_name o) (option_map (λ t. Move i o t.p t.q t.mb t.nb how) (target_of p q mb nb)) r e in
     let target = mapped (λ t. Move i o t.p t.q t.mb t.nb how) (target_of p q mb nb) r names.1 in
-    let each = both (is_name i) (is_name o) names.0 in
-    subst (By command.Move) target.1.1 ((each.0, each.1, target_within p q mb nb target.0 target.1.0, k), refl)
+    subst (By command.Move) target.1.1 ((target_within p q mb nb target.0 target.1.0, k), refl)
 move_within [] how r k e = absurd cc
 move_within (a ∷ []) how r k e = absurd cc
 move_within (a ∷ b ∷ []) how r k e = absurd cc
@@ -116,21 +110,20 @@ join_within : (places : List Text) (r : Asked) → join_of places ≡ Some r →
 unfolding join_of
 join_within (i ∷ o ∷ []) r e =
     let names = chosen (is_name i && is_name o) (Some (Join i o)) r e in
-    let each = both (is_name i) (is_name o) names.0 in
-    subst (By command.Join) (some_is (Join i o) r names.1) ((each.0, each.1), refl)
+    subst (By command.Join) (some_is (Join i o) r names.1) (tt, refl)
 join_within [] r e = absurd cc
 join_within (a ∷ []) r e = absurd cc
 join_within (a ∷ b ∷ z ∷ zs) r e = absurd cc
 
 check_within : (places : List Text) (r : Asked) → check_of places ≡ Some r → By command.Check r
 unfolding check_of
-check_within (i ∷ []) r e = let name = chosen (is_name i) (Some (Check i)) r e in subst (By command.Check) (some_is (Check i) r name.1) (name.0, refl)
+check_within (i ∷ []) r e = let name = chosen (is_name i) (Some (Check i)) r e in subst (By command.Check) (some_is (Check i) r name.1) (tt, refl)
 check_within [] r e = absurd cc
 check_within (a ∷ z ∷ zs) r e = absurd cc
 
 run_within : (places : List Text) (how : How) (r : Asked) → IsHow how → run_of places how ≡ Some r → By command.Run r
 unfolding run_of
-run_within (i ∷ []) how r k e = let name = chosen (is_name i) (Some (Run i how)) r e in subst (By command.Run) (some_is (Run i how) r name.1) ((name.0, k), refl)
+run_within (i ∷ []) how r k e = let name = chosen (is_name i) (Some (Run i how)) r e in subst (By command.Run) (some_is (Run i how) r name.1) (k, refl)
 run_within [] how r k e = absurd cc
 run_within (a ∷ z ∷ zs) how r k e = absurd cc
 

@@ -1,10 +1,10 @@
 -- What the words of the command line ask for.
-use Rattle.std.specs.Prelude.{ℕ, zero, suc, ◌*◌, ◌^◌, ◌-◌, Bool, not, ◌&&◌, List, [], ◌∷◌, length, find, Option, Some, None, option_and_then, ◌==◌, nat_le, if◌then◌else◌}
+use Rattle.std.specs.Prelude.{ℕ, zero, suc, ◌*◌, ◌^◌, ◌-◌, ◌&&◌, List, [], ◌∷◌, length, find, Option, Some, None, option_and_then, nat_le, if◌then◌else◌}
 use Rattle.std.specs.Option.{option_map}
-use Rattle.std.specs.List.{list_any}
 use Rattle.std.specs.Str.{bytes_eq}
 use Rattle.line_text.specs.Numbers.{digits_number}
 use Rattle.tool_words.specs.CommandNames.{name_of}
+use Rattle.tool_words.specs.FileName.{is_name}
 use Rattle.tool_words.specs.Given.{Text, Given, sorted}
 use Rattle.tool_words.specs.declared.command.Command.{Command}
 use Rattle.tool_words.specs.declared.command.Command.TheVariants as command
@@ -13,10 +13,6 @@ use Rattle.tool_words.specs.declared.asked.How.{How}
 use Rattle.tool_words.specs.declared.asked.How.TheVariants.{Plain, Threads, Seed}
 use Rattle.tool_words.specs.declared.asked.Asked.{Asked}
 use Rattle.tool_words.specs.declared.asked.Asked.TheVariants.{Split, Join, Move, Check, Run, Load}
-
--- a name of a file: 1 to 1,024 bytes, none of them 0
-abbrev pub is_name : Text → Bool
-is_name text = nat_le 1 (length text) && nat_le (length text) 1024 && not (list_any (λ b. b == 0) text)
 
 -- a number of 1 to 20 digits without a sign, within these bounds
 unfoldable pub number_within : (low high : ℕ) → Text → Option ℕ

@@ -1,6 +1,5 @@
--- The bounds of what the words ask for.
-use Rattle.std.specs.Prelude.{◌≡◌, ℕ, ◌*◌, ◌^◌, ◌≤◌, ◌<◌, true}
-use Rattle.tool_words.specs.CommandWords.{is_name}
+-- The bounds of the numbers among the words.
+use Rattle.std.specs.Prelude.{ℕ, ◌*◌, ◌^◌, ◌≤◌, ◌<◌}
 use Rattle.tool_words.specs.declared.asked.How.{How}
 use Rattle.tool_words.specs.declared.asked.How.TheVariants.{Plain, Threads, Seed}
 use Rattle.tool_words.specs.declared.asked.Asked.{Asked}
@@ -21,11 +20,11 @@ IsHow Plain = Unit {0}
 IsHow Threads = Unit {0}
 IsHow (Seed s) = s < 2 ^ 64
 
--- every name is one, and every number lies within its bounds
+-- every number lies within its bounds
 abbrev pub IsWithin : Asked → Type 0
-IsWithin (Split input output p q mb nb) = (is_name input ≡ true) × (is_name output ≡ true) × IsTarget p q mb nb
-IsWithin (Join prefix output) = (is_name prefix ≡ true) × (is_name output ≡ true)
-IsWithin (Move prefix output p q mb nb how) = (is_name prefix ≡ true) × (is_name output ≡ true) × IsTarget p q mb nb × IsHow how
-IsWithin (Check program) = is_name program ≡ true
-IsWithin (Run program how) = (is_name program ≡ true) × IsHow how
+IsWithin (Split input output p q mb nb) = IsTarget p q mb nb
+IsWithin (Join prefix output) = Unit {0}
+IsWithin (Move prefix output p q mb nb how) = IsTarget p q mb nb × IsHow how
+IsWithin (Check program) = Unit {0}
+IsWithin (Run program how) = IsHow how
 IsWithin (Load seed size) = (seed < 2 ^ 64) × (1 ≤ size) × (size ≤ 2000)

@@ -1,7 +1,8 @@
 //! Names and numbers among the words.
 ghost use Rattle.std.specs.Prelude.{◌≡◌, ◌≤◌, ◌==◌, ◌&&◌, nat_le, Some, None, if◌then◌else◌, IfSome};
 ghost use Rattle.std.specs.List.{list_any};
-ghost use Rattle.tool_words.specs.CommandWords.{is_name, number_within};
+ghost use Rattle.tool_words.specs.CommandWords.{number_within};
+ghost use Rattle.tool_words.specs.FileName.{is_name};
 
 use line_text::is_digits;
 

@@ -1,4 +1,4 @@
-use Rattle.std.proofs.Common.{arith, sym, ap, ◌∙◌, ◌≡◌, ◌<◌, ◌≤◌, length, Some, true, false, ℕ, rules}
+use Rattle.std.proofs.Common.{arith, sym, ap, ◌∙◌, ◌≡◌, ◌<◌, ◌≤◌, length, Some, true, false, ℕ}
 use Rattle.std.proofs.lemmas.Grind.{common_steps}
 use Rattle.line_text.proofs.NumberSteps.{number_of_none, number_of_other, number_of_digits}
 use Rattle.std.specs.Str.{all_ascii_digits}

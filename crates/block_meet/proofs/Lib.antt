@@ -1,0 +1,12 @@
+pub mod Blocks
+pub mod RunLemmas
+pub mod NumberLemmas
+pub mod TableLemmas
+pub mod LawLemmas
+pub mod StepLemmas
+pub mod PairLemmas
+pub mod DealLemmas
+pub mod ExistLemmas
+pub mod MeetLemmas
+pub mod CountLemmas
+pub mod SumLemmas

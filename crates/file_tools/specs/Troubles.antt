@@ -1,0 +1,54 @@
+-- The status and the line of what keeps a command from its end.
+use Rattle.std.specs.Prelude.{◌≡◌, ℕ, List, [], Result, Ok, Err}
+use Rattle.store_io.specs.Outside.{Outside, Poured, SameCounts}
+use Rattle.mm_reader.specs.Views.{fault_of}
+use Rattle.piece_file.specs.FaultView.{fault_view}
+use Rattle.file_tools.specs.Texts.{missing, store_fault, at_line, too_many_words, out_of_memory}
+use Rattle.file_tools.specs.FaultTexts.{matrix_fault_text, piece_fault_text}
+use Rattle.file_tools.specs.Walk.{Walk}
+use Rattle.file_tools.specs.Outcome.{Leaves}
+use Rattle.file_tools.specs.declared.status.Status.{Status}
+use Rattle.file_tools.specs.declared.status.Status.TheVariants as status
+use Rattle.file_tools.specs.declared.trouble.Trouble.{Trouble}
+use Rattle.file_tools.specs.declared.trouble.Trouble.TheVariants.{Missing, Failed, Matrix, Piece, TooMany, NoMemory}
+
+abbrev pub status_of : Trouble → Status
+status_of (Missing name) = status.Store
+status_of (Failed name) = status.Store
+status_of (Matrix name error) = status.Refused
+status_of (Piece name line fault) = status.Refused
+status_of (TooMany words) = status.Refused
+status_of NoMemory = status.NoMemory
+
+abbrev pub line_of : Trouble → List ℕ
+line_of (Missing name) = missing name
+line_of (Failed name) = store_fault name
+line_of (Matrix name error) = at_line name error.line (matrix_fault_text (fault_of error.what))
+line_of (Piece name line fault) = at_line name line (piece_fault_text (fault_view fault))
+line_of (TooMany words) = too_many_words words
+line_of NoMemory = out_of_memory
+
+-- what a command leaves that follows this walk, by what it answers
+abbrev pub Follows : {X : Type 0} → Result X Trouble → (walk : Walk) → (old new : Outside) → (before after : Poured) → Type 0
+Follows (Ok x) walk old new before after = Leaves status.Done walk [] old new before after
+Follows (Err trouble) walk old new before after = Leaves (status_of trouble) walk (line_of trouble) old new before after
+
+-- a command stops at this trouble, and its output is as it was
+abbrev pub Stops : Trouble → (walk : Walk) → (old new : Outside) → Type 0
+Stops trouble walk old new = (pour : Poured) → Leaves (status_of trouble) walk (line_of trouble) old new pour pour
+
+-- what reading leaves where it goes on
+pub record ReadsOn (old new : Outside) : Type 0 where
+  pub told : new.told ≡ old.told
+  pub files : new.files ≡ old.files
+  pub opens : new.opens ≡ old.opens
+  pub counts : SameCounts old new
+
+-- the status and the line of what a command answers
+abbrev pub status_in : {X : Type 0} → Result X Trouble → Status
+status_in (Ok x) = status.Done
+status_in (Err trouble) = status_of trouble
+
+abbrev pub line_in : {X : Type 0} → Result X Trouble → List ℕ
+line_in (Ok x) = []
+line_in (Err trouble) = line_of trouble

@@ -1,0 +1,14 @@
+pub mod Alike
+pub mod Confluence
+pub mod Diamond
+pub mod Endings
+pub mod Lists
+pub mod Longer
+pub mod Matching
+pub mod Orders
+pub mod Pairs
+pub mod Rounds
+pub mod RunOrders
+pub mod Stepping
+pub mod Turns
+pub mod Waiting

@@ -1,0 +1,4 @@
+pub mod PlanSteps
+pub mod PlanPassing
+pub mod Members
+pub mod Gathering

@@ -1,0 +1,11 @@
+pub mod Parts
+pub mod Lines
+pub mod Refusals
+pub mod Ops
+pub mod Broadcasts
+pub mod Scopes
+pub mod ByPlace
+pub mod Scratch
+pub mod Combines
+pub mod CombineOps
+pub mod CombineRefusals

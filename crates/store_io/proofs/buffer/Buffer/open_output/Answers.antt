@@ -1,0 +1,34 @@
+use Rattle.std.proofs.Common.{◌≡◌, ◌-◌, length, refl, ap, sym, subst, ◌∙◌, arith}
+use Rattle.std.proofs.lemmas.Grind.{common_steps}
+use Rattle.store_io.specs.Held.{Held, HasRoom, opened_output}
+use Rattle.store_io.proofs.BufferLemmas.{begins, with_piece, length-with_piece, part_less, parts_less, fails_kept}
+use Rattle.store_io.proofs.HeldLemmas.{same_held}
+use Rattle.store_io.specs.BufferView.{buffer_view}
+use Rattle.store_io.proofs.buffer.Buffer.open_output.Goals as goal
+
+pub returns : goal.returns
+returns c =
+    let room : HasRoom (buffer_view c.self.inside) (length c.args.name.now) = subst (λ (h : Held). HasRoom h (length c.args.name.now)) (sym c.self.view_is) c.requires in
+    let is : c.put_at.new.bytes.items ≡ with_piece c.self.inside.bytes.items c.self.inside.used c.args.name.now = c.put_at.ensures in
+    let len : length c.put_at.new.bytes.items ≡ length c.self.inside.bytes.items = ap length is ∙ length-with_piece c.self.inside.bytes.items c.args.name.now c.self.inside.used (omega arith) in
+    let g = begins c.self.inside.bytes.items c.put_at.new.bytes.items c.args.name.now c.self.inside.used c.self.inside.back c.self.inside.entries.items (c.self.inside.first - 1) c.self.inside.first (omega (arith, room.bytes, c.self.invariant.free)) c.self.invariant.fits (omega (arith, room.entry)) c.self.invariant.first c.self.invariant.placed is in
+    same_held g.files refl (g.clear c.self.inside.input.from c.self.inside.input.to c.self.invariant.input.clear) (g.clear c.self.inside.left.from c.self.inside.left.to c.self.invariant.left.clear) refl g.front
+    (fails_kept _ _ _ _ _ _ g.clear c.self.invariant.fails) (omega arith) (omega arith) ∙ ap (λ (h : Held). opened_output h c.args.name.now) c.self.view_is
+
+pub invariant_of-self : goal.invariant_of-self
+invariant_of-self c =
+    let room : HasRoom (buffer_view c.self.inside) (length c.args.name.now) = subst (λ (h : Held). HasRoom h (length c.args.name.now)) (sym c.self.view_is) c.requires in
+    let is : c.put_at.new.bytes.items ≡ with_piece c.self.inside.bytes.items c.self.inside.used c.args.name.now = c.put_at.ensures in
+    let len : length c.put_at.new.bytes.items ≡ length c.self.inside.bytes.items = ap length is ∙ length-with_piece c.self.inside.bytes.items c.args.name.now c.self.inside.used (omega arith) in
+    let g = begins c.self.inside.bytes.items c.put_at.new.bytes.items c.args.name.now c.self.inside.used c.self.inside.back c.self.inside.entries.items (c.self.inside.first - 1) c.self.inside.first (omega (arith, room.bytes, c.self.invariant.free)) c.self.invariant.fits (omega (arith, room.entry)) c.self.invariant.first c.self.invariant.placed is in
+    record {
+      free = omega (arith, room.bytes, c.self.invariant.free);
+      fits = omega (arith, len, c.self.invariant.fits);
+      first = grind (arith, common_steps);
+      placed = g.placed;
+      front = λ _. g.ends;
+      input = part_less _ _ _ _ _ _ _ (omega arith) (omega arith) (omega (arith, len)) c.self.invariant.input;
+      left = part_less _ _ _ _ _ _ _ (omega arith) (omega arith) (omega (arith, len)) c.self.invariant.left;
+      not_reading = λ r. g.clear c.self.inside.left.from c.self.inside.left.to c.self.invariant.left.clear ∙ c.self.invariant.not_reading r;
+      fails = parts_less _ _ _ _ _ _ _ (omega arith) (omega arith) (omega (arith, len)) c.self.invariant.fails;
+    }

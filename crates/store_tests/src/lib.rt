@@ -1,0 +1,5 @@
+//! Tests of the stores and sinks.
+#![tactic(auto)]
+
+#[cfg(test)]
+mod stores;
