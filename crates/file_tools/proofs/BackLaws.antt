@@ -29,8 +29,7 @@ use Rattle.file_tools.specs.ThereAndBack.{GivesBack, SplitsAndJoins}
 use Rattle.file_tools.proofs.WalkLaws.{comes_answer}
 use Rattle.file_tools.proofs.GatheringLaws.{pieces_come}
 use Rattle.file_tools.proofs.SplitPieces.{piece_of, pieces_from, words_are, gathered}
-use Rattle.file_tools.proofs.SplitLaws as split
-use Rattle.file_tools.proofs.JoinLaws as join
+use Rattle.file_tools.proofs.LimitLaws.{within}
 
 -- ---- there
 
@@ -42,7 +41,7 @@ read_answer name bytes next files m held text =
 
 there : (files : Files) (input bytes : List ℕ) (t : Target) (m : Matrix) → get files input ≡ Some bytes → IsMatrixText width32 bytes m → job_words t m.rows m.columns ≤ 2 ^ 26 → answer (split_walk input t) files ≡ done (saves_of t m) []
 there files input bytes t m held text small =
-    ap (λ (w : Walk). answer w files) (split.split_is input t) ∙ read_answer input bytes (job_walk t) files m held text ∙ ap (λ (w : Walk). answer w files) (split.small_is t m small)
+    read_answer input bytes (job_walk t) files m held text ∙ ap (λ (w : Walk). answer w files) (within (job_words t m.rows m.columns) _ small)
 
 -- ---- back
 
@@ -66,9 +65,8 @@ back_by : (files : Files) (output : List ℕ) (t : Target) (m : Matrix) (j : ℕ
 back_by files output t m j is all whole small =
     let after : Files = saved (saves_of t m) files in
     let ps : List Piece = pieces_from t m 0 (suc j) in
-    ap (λ (w : Walk). answer w after) (join.join_is t.prefix output)
-    ∙ comes_answer (pieces_walk t.prefix (whole_walk output)) after (whole_walk output ps) (pieces_come t.prefix (whole_walk output) after ps (gathered t m files is whole small j all))
-    ∙ ap (λ (w : Walk). answer w after) (join.small_is output ps (small_join t m j all small))
+    comes_answer (pieces_walk t.prefix (whole_walk output)) after (whole_walk output ps) (pieces_come t.prefix (whole_walk output) after ps (gathered t m files is whole small j all))
+    ∙ ap (λ (w : Walk). answer w after) (within (join_words ps) _ (small_join t m j all small))
     ∙ ap (λ (n : Matrix). done (save output (plain_text n) ∷ []) []) (whole_is t m j is all whole)
 
 gives_back : (files : Files) (input output bytes : List ℕ) (t : Target) (m : Matrix) → IsTarget t.nprow t.npcol t.mb t.nb → get files input ≡ Some bytes → IsMatrixText width32 bytes m → IsMatrix width32 m → job_words t m.rows m.columns ≤ 2 ^ 26

@@ -19,18 +19,18 @@ complete_need : (walk : Walk) (line : List ℕ) (old new : Outside) (before afte
 complete_need walk line old new before after h told still (inl lacks) = refused_is status.Store walk line old new before after (lacks.answered told) h.untouched.files h.silent
 complete_need walk line old new before after h told still (inr fails) = absurd (still fails.failed.faults)
 
-complete_leaves : (s : Status) (walk : Walk) (line : List ℕ) (old new : Outside) (before after : Poured) → Leaves s walk line old new before after → IsComplete s walk old new before after
-complete_leaves status.Done walk line old new before after h told still silent = inr (record {
-  status = sym (ap (λ (a : Answer). a.status) (h.answered told));
-  files = h.files told ∙ ap (λ (a : Answer). saved a.saves old.files) (sym (h.answered told));
-  output = λ heard. h.gained heard ∙ ap (λ (a : Answer). before.bytes ++ a.output) (sym (h.answered told));
+complete_leaves : (s : Status) (walk : Walk) (names : List (List ℕ)) (line : List ℕ) (old new : Outside) (before after : Poured) → Leaves s walk names line old new before after → IsComplete s walk old new before after
+complete_leaves status.Done walk names line old new before after h told still silent = inr (record {
+  status = sym (ap (λ (a : Answer). a.status) (h.ends.answered told));
+  files = h.files told ∙ ap (λ (a : Answer). saved a.saves old.files) (sym (h.ends.answered told));
+  output = λ heard. h.gained heard ∙ ap (λ (a : Answer). before.bytes ++ a.output) (sym (h.ends.answered told));
 })
-complete_leaves status.Refused walk line old new before after h told still silent = inr (refused_is status.Refused walk line old new before after (h.answered told) h.untouched.files h.silent)
-complete_leaves status.Words walk line old new before after h told still silent = inr (refused_is status.Words walk line old new before after (ap (λ (w : Walk). answer w old.files) h.walk_is) h.untouched.files h.silent)
-complete_leaves status.Store walk line old new before after (inl h) told still silent = inr (complete_need walk line old new before after h told still h.why)
-complete_leaves status.Store walk line old new before after (inr h) told still silent = absurd (still h.why.failed.faults)
-complete_leaves status.NoMemory walk line old new before after h told still silent = inl refl
-complete_leaves status.Sink walk line old new before after h told still silent = absurd (silent h.poured)
+complete_leaves status.Refused walk names line old new before after h told still silent = inr (refused_is status.Refused walk line old new before after (h.answered told) h.untouched.files h.silent)
+complete_leaves status.Words walk names line old new before after h told still silent = inr (refused_is status.Words walk line old new before after (ap (λ (w : Walk). answer w old.files) h.walk_is) h.untouched.files h.silent)
+complete_leaves status.Store walk names line old new before after (inl h) told still silent = inr (complete_need walk line old new before after h told still h.why)
+complete_leaves status.Store walk names line old new before after (inr h) told still silent = absurd (still h.why.failed.faults)
+complete_leaves status.NoMemory walk names line old new before after h told still silent = inl refl
+complete_leaves status.Sink walk names line old new before after h told still silent = absurd (silent h.poured)
 
-pub complete : (s : Status) (walk : Walk) (old new : Outside) (before after quiet said : Poured) → IsOutcome s walk old new before after quiet said → IsComplete s walk old new before after
-complete s walk old new before after quiet said h = complete_leaves s walk h.line old new before after h.leaves
+pub complete : (s : Status) (walk : Walk) (names : List (List ℕ)) (old new : Outside) (before after quiet said : Poured) → IsOutcome s walk names old new before after quiet said → IsComplete s walk old new before after
+complete s walk names old new before after quiet said h = complete_leaves s walk names h.line old new before after h.leaves

@@ -137,25 +137,25 @@ missing_piece : (prefix name : List ℕ) (next : List Piece → Walk) (files : F
 missing_piece prefix name next files is = piece_next prefix name next files is.before is.are_held is.are_few is.name_is
 
 -- The walk stops where not all pieces were gathered.
-pub pieces_stop : (e : PieceErr) (prefix : List ℕ) (next : List Piece → Walk) (old new : Outside) → (IsTrue old.told → Refuses e old.files prefix) → Because e old new → OnlyReads old new → Stops (of_piece e) (pieces_walk prefix next) old new
-pieces_stop (gather.Missing name) prefix next old new is why same pour = inl (record {
+pub pieces_stop : (e : PieceErr) (prefix : List ℕ) (next : List Piece → Walk) (names : List (List ℕ)) (old new : Outside) → (IsTrue old.told → Refuses e old.files prefix) → Because e old new → OnlyReads old new → Stops (of_piece e) (pieces_walk prefix next) names old new
+pieces_stop (gather.Missing name) prefix next names old new is why same pour = inl (record {
   name = name;
   needed = λ told. missing_piece prefix name next old.files (is told);
   why = inl (record { missed = why; line_is = refl; answered = λ told. missing_answer (pieces_walk prefix next) old.files name (missing_piece prefix name next old.files (is told)) (let none = is told in none.is_missing) });
   untouched = untouched old new same;
   silent = refl;
 })
-pieces_stop (gather.Failed name) prefix next old new is why same pour = inl (record {
+pieces_stop (gather.Failed name) prefix next names old new is why same pour = inl (record {
   name = name;
   needed = λ told. (let here = is told in piece_next prefix name next old.files here.before here.are_held here.are_few here.name_is);
   why = inr (record { failed = why; line_is = refl });
   untouched = untouched old new same;
   silent = refl;
 })
-pieces_stop (gather.Bad name line fault) prefix next old new is why same pour = record {
+pieces_stop (gather.Bad name line fault) prefix next names old new is why same pour = record {
   answered = λ told. bad_piece prefix name next old.files (record { line = line; fault = fault_view fault }) (is told);
   untouched = untouched old new same;
   counts = why;
   silent = refl;
 }
-pieces_stop gather.NoMemory prefix next old new is why same pour = record { untouched = untouched old new same; counts = why; silent = refl; line_is = refl }
+pieces_stop gather.NoMemory prefix next names old new is why same pour = record { untouched = untouched old new same; counts = why; silent = refl; line_is = refl }

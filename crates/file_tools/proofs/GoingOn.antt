@@ -31,8 +31,8 @@ same_answer : (w here : Walk) (old mid : Outside) → ReadsOn old mid → Comes 
 same_answer w here old mid on comes = comes_answer w old.files here comes ∙ ap (answer here) (sym on.files)
 
 -- an end from here is an end
-ends_on : (w here : Walk) (saves : List Save) (output : List ℕ) (old mid : Outside) → (IsTrue old.told → Comes w old.files here) → ReadsOn old mid → EndsWith here saves output mid → EndsWith w saves output old
-ends_on w here saves output old mid comes on ends = λ told. same_answer w here old mid on (comes told) ∙ ends (subst IsTrue (sym on.told) told)
+ends_on : (w here : Walk) (names : List (List ℕ)) (saves : List Save) (output : List ℕ) (old mid : Outside) → (IsTrue old.told → Comes w old.files here) → ReadsOn old mid → EndsWith here names saves output mid → EndsWith w names saves output old
+ends_on w here names saves output old mid comes on ends = record { named = ends.named; answered = λ told. same_answer w here old mid on (comes told) ∙ ends.answered (subst IsTrue (sym on.told) told) }
 
 saved_on : (saves : List Save) (old mid new : Outside) → ReadsOn old mid → (IsTrue mid.told → new.files ≡ saved saves mid.files) → IsTrue old.told → new.files ≡ saved saves old.files
 saved_on saves old mid new on files told = files (subst IsTrue (sym on.told) told) ∙ ap (saved saves) on.files
@@ -66,11 +66,11 @@ never_words (trouble.Piece name line fault) e = cc
 never_words (trouble.TooMany words) e = cc
 never_words trouble.NoMemory e = cc
 
-leaves_on : (s : Status) → (s ≡ status.Words → ⊥) → (w here : Walk) (line : List ℕ) (old mid new : Outside) (before after : Poured) → (IsTrue old.told → Comes w old.files here) → ReadsOn old mid → Leaves s here line mid new before after → Leaves s w line old new before after
-leaves_on status.Done other w here line old mid new before after comes on then = record {
+leaves_on : (s : Status) → (s ≡ status.Words → ⊥) → (w here : Walk) (names : List (List ℕ)) (line : List ℕ) (old mid new : Outside) (before after : Poured) → (IsTrue old.told → Comes w old.files here) → ReadsOn old mid → Leaves s here names line mid new before after → Leaves s w names line old new before after
+leaves_on status.Done other w here names line old mid new before after comes on then = record {
   saves = then.saves;
   output = then.output;
-  answered = ends_on w here then.saves then.output old mid comes on then.answered;
+  ends = ends_on w here names then.saves then.output old mid comes on then.ends;
   files = saved_on then.saves old mid new on then.files;
   opens = then.opens ∙ ap (opened (length then.saves)) on.opens;
   gained = then.gained;
@@ -78,42 +78,42 @@ leaves_on status.Done other w here line old mid new before after comes on then =
   poured = then.poured;
   line_is = then.line_is;
 }
-leaves_on status.Refused other w here line old mid new before after comes on then = record {
+leaves_on status.Refused other w here names line old mid new before after comes on then = record {
   answered = λ told. same_answer w here old mid on (comes told) ∙ then.answered (subst IsTrue (sym on.told) told);
   untouched = untouched_later old mid new on then.untouched;
   counts = counts_later old mid new on.counts then.counts;
   silent = then.silent;
 }
-leaves_on status.Words other w here line old mid new before after comes on then = absurd (other refl)
-leaves_on status.Store other w here line old mid new before after comes on (inl then) = inl (record {
+leaves_on status.Words other w here names line old mid new before after comes on then = absurd (other refl)
+leaves_on status.Store other w here names line old mid new before after comes on (inl then) = inl (record {
   name = then.name;
   needed = λ told. needed_on w here old mid then.name on (comes told) (then.needed (subst IsTrue (sym on.told) told));
   why = why_on w here then.name line old mid new comes on then.why;
   untouched = untouched_later old mid new on then.untouched;
   silent = then.silent;
 })
-leaves_on status.Store other w here line old mid new before after comes on (inr then) = inr (record {
+leaves_on status.Store other w here names line old mid new before after comes on (inr then) = inr (record {
   first = then.first;
   name = then.name;
   text = then.text;
   later = then.later;
   output = then.output;
-  answered = ends_on w here (then.first ++ save then.name then.text ∷ then.later) then.output old mid comes on then.answered;
+  ends = ends_on w here names (then.first ++ save then.name then.text ∷ then.later) then.output old mid comes on then.ends;
   files = λ told. until_on then.first then.name then.text old.files mid.files new.files on.files (then.files (subst IsTrue (sym on.told) told));
   opens = then.opens ∙ ap (opened (suc (length then.first))) on.opens;
   why = fault_on then.name line old mid new on then.why;
   silent = then.silent;
 })
-leaves_on status.NoMemory other w here line old mid new before after comes on then = record {
+leaves_on status.NoMemory other w here names line old mid new before after comes on then = record {
   untouched = untouched_later old mid new on then.untouched;
   counts = counts_later old mid new on.counts then.counts;
   silent = then.silent;
   line_is = then.line_is;
 }
-leaves_on status.Sink other w here line old mid new before after comes on then = record {
+leaves_on status.Sink other w here names line old mid new before after comes on then = record {
   saves = then.saves;
   output = then.output;
-  answered = ends_on w here then.saves then.output old mid comes on then.answered;
+  ends = ends_on w here names then.saves then.output old mid comes on then.ends;
   files = saved_on then.saves old mid new on then.files;
   opens = then.opens ∙ ap (opened (length then.saves)) on.opens;
   gained = then.gained;
@@ -122,15 +122,15 @@ leaves_on status.Sink other w here line old mid new before after comes on then =
   line_is = then.line_is;
 }
 
-pub follows_on : {X : Type 0} (r : Result X Trouble) (w here : Walk) (old mid new : Outside) → (IsTrue old.told → Comes w old.files here) → ReadsOn old mid → ((pour : Poured) → Follows r here mid new pour pour) → (pour : Poured) → Follows r w old new pour pour
-follows_on (Ok x) w here old mid new comes on then pour = leaves_on status.Done (λ e. cc) w here [] old mid new pour pour comes on (then pour)
-follows_on (Err t) w here old mid new comes on then pour = leaves_on (status_of t) (never_words t) w here (line_of t) old mid new pour pour comes on (then pour)
+pub follows_on : {X : Type 0} (r : Result X Trouble) (w here : Walk) (names : List (List ℕ)) (old mid new : Outside) → (IsTrue old.told → Comes w old.files here) → ReadsOn old mid → ((pour : Poured) → Follows r here names mid new pour pour) → (pour : Poured) → Follows r w names old new pour pour
+follows_on (Ok x) w here names old mid new comes on then pour = leaves_on status.Done (λ e. cc) w here names [] old mid new pour pour comes on (then pour)
+follows_on (Err t) w here names old mid new comes on then pour = leaves_on (status_of t) (never_words t) w here names (line_of t) old mid new pour pour comes on (then pour)
 
 -- want of memory, before anything was done
-pub wants_memory : (w : Walk) (old : Outside) → Stops trouble.NoMemory w old old
-wants_memory w old pour = record { untouched = record { files = refl; opens = refl }; counts = record { faults = refl; misses = refl }; silent = refl; line_is = refl }
+pub wants_memory : (w : Walk) (names : List (List ℕ)) (old : Outside) → Stops trouble.NoMemory w names old old
+wants_memory w names old pour = record { untouched = record { files = refl; opens = refl }; counts = record { faults = refl; misses = refl }; silent = refl; line_is = refl }
 
 -- a trouble that is passed on
-pub passed_on : {X : Type 0} (r : Result X Trouble) (t : Trouble) (w : Walk) (old new : Outside) → IsErrAnd r (λ u. u ≡ t) → Stops t w old new → (pour : Poured) → Follows r w old new pour pour
-passed_on (Ok x) t w old new is stops pour = absurd is
-passed_on (Err u) t w old new is stops pour = subst (λ (v : Trouble). Leaves (status_of v) w (line_of v) old new pour pour) (sym is) (stops pour)
+pub passed_on : {X : Type 0} (r : Result X Trouble) (t : Trouble) (w : Walk) (names : List (List ℕ)) (old new : Outside) → IsErrAnd r (λ u. u ≡ t) → Stops t w names old new → (pour : Poured) → Follows r w names old new pour pour
+passed_on (Ok x) t w names old new is stops pour = absurd is
+passed_on (Err u) t w names old new is stops pour = subst (λ (v : Trouble). Leaves (status_of v) w names (line_of v) old new pour pour) (sym is) (stops pour)

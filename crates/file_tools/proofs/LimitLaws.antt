@@ -1,10 +1,14 @@
 -- A limit on the words of a job.
-use Rattle.std.proofs.Common.{◌≡◌, ℕ, ◌^◌, ◌<◌, ◌≤◌, Bool, true, false, cond, List, refl, ap, arith, nat_le}
+use Rattle.std.proofs.Common.{◌≡◌, ℕ, ◌^◌, ◌<◌, ◌≤◌, Bool, true, false, cond, List, refl, sym, ap, subst, ◌∙◌, arith, nat_le}
+use Rattle.std.specs.Prelude.{Result}
 use Rattle.std.proofs.lemmas.Bool.{le-leb, leb-true}
 use Rattle.store_io.specs.Outside.{Outside, Poured}
-use Rattle.file_tools.specs.Walk.{Walk, Refuses, answer}
-use Rattle.file_tools.specs.Outcome.{IsRefused}
+use Rattle.file_tools.specs.Texts.{too_many_words}
+use Rattle.file_tools.specs.Walk.{Walk, Refuses, answer, within_limit}
+use Rattle.file_tools.specs.Troubles.{Follows, Stops}
 use Rattle.file_tools.specs.declared.status.Status.TheVariants as status
+use Rattle.file_tools.specs.declared.trouble.Trouble.{Trouble}
+use Rattle.file_tools.specs.declared.trouble.Trouble.TheVariants as trouble
 
 -- what is chosen within a limit, and above it
 chosen : (b : Bool) (x y : Walk) → b ≡ true → cond b x y ≡ x
@@ -15,17 +19,24 @@ passed_over : (b : Bool) (x y : Walk) → (b ≡ true → ⊥) → cond b x y �
 passed_over true x y e = absurd (e refl)
 passed_over false x y e = refl
 
-pub within : (words : ℕ) (x y : Walk) → words ≤ 2 ^ 26 → cond (nat_le words (2 ^ 26)) x y ≡ x
-within words x y le = chosen (nat_le words (2 ^ 26)) x y (le-leb _ _ le)
+pub within : (words : ℕ) (next : Walk) → words ≤ 2 ^ 26 → within_limit words next ≡ next
+unfolding within_limit
+within words next le = chosen (nat_le words (2 ^ 26)) next _ (le-leb _ _ le)
 
-pub above : (words : ℕ) (x y : Walk) → 2 ^ 26 < words → cond (nat_le words (2 ^ 26)) x y ≡ y
-above words x y lt = passed_over (nat_le words (2 ^ 26)) x y (λ e. omega (arith, lt, leb-true words (2 ^ 26) e))
+above : (words : ℕ) (next : Walk) → 2 ^ 26 < words → within_limit words next ≡ Refuses (too_many_words words) status.Refused
+unfolding within_limit
+above words next lt = passed_over (nat_le words (2 ^ 26)) next _ (λ e. omega (arith, lt, leb-true words (2 ^ 26) e))
 
--- a walk that is refused
-pub refused_stops : (w : Walk) (line : List ℕ) (old : Outside) (pour : Poured) → w ≡ Refuses line status.Refused → IsRefused w line old old pour pour
-refused_stops w line old pour e = record {
-  answered = λ told. ap (λ (v : Walk). answer v old.files) e;
+-- a job above the limit stops
+pub large_stops : (words n : ℕ) (next : Walk) (names : List (List ℕ)) (old : Outside) → words ≡ n → 2 ^ 26 < words → Stops (trouble.TooMany words) (within_limit n next) names old old
+large_stops words n next names old count lt pour = record {
+  answered = λ told. ap (λ (v : Walk). answer v old.files) (ap (λ (k : ℕ). within_limit k next) (sym count) ∙ above words next lt);
   untouched = record { files = refl; opens = refl };
   counts = record { faults = refl; misses = refl };
   silent = refl;
 }
+
+-- a job within the limit goes on
+pub small_follows : {X : Type 0} (r : Result X Trouble) (words n : ℕ) (next : Walk) (names : List (List ℕ)) (old new : Outside) → words ≡ n → words ≤ 2 ^ 26 → ((pour : Poured) → Follows r next names old new pour pour)
+    → (pour : Poured) → Follows r (within_limit n next) names old new pour pour
+small_follows r words n next names old new count le then pour = subst (λ (w : Walk). Follows r w names old new pour pour) (sym (within n next (omega (arith, le, count)))) (then pour)

@@ -46,28 +46,28 @@ bad_answer name next files e (bytes, held, fault) =
     ∙ ap (λ r. answer (with_matrix name r next) files) ((reading width32).finds bytes (refusal_of e) fault)
 
 -- the walk stops where no matrix was read
-pub matrix_stops : (e : LoadErr) (name : List ℕ) (next : Matrix → Walk) (old new : Outside) → (IsTrue old.told → Refuses e old.files name) → Because e old new → OnlyReads old new → Stops (of_load name e) (matrix_walk name next) old new
-matrix_stops load.Missing name next old new none why same pour = inl (record {
+pub matrix_stops : (e : LoadErr) (name : List ℕ) (next : Matrix → Walk) (names : List (List ℕ)) (old new : Outside) → (IsTrue old.told → Refuses e old.files name) → Because e old new → OnlyReads old new → Stops (of_load name e) (matrix_walk name next) names old new
+matrix_stops load.Missing name next names old new none why same pour = inl (record {
   name = name;
   needed = λ told. matrix_needed name next old.files;
   why = inl (record { missed = why; line_is = refl; answered = λ told. missing_answer (matrix_walk name next) old.files name (matrix_needed name next old.files) (none told) });
   untouched = untouched old new same;
   silent = refl;
 })
-matrix_stops load.Failed name next old new free why same pour = inl (record {
+matrix_stops load.Failed name next names old new free why same pour = inl (record {
   name = name;
   needed = λ told. matrix_needed name next old.files;
   why = inr (record { failed = why; line_is = refl });
   untouched = untouched old new same;
   silent = refl;
 })
-matrix_stops (load.Mm e) name next old new bad why same pour = record {
+matrix_stops (load.Mm e) name next names old new bad why same pour = record {
   answered = λ told. bad_answer name next old.files e (bad told);
   untouched = untouched old new same;
   counts = why;
   silent = refl;
 }
-matrix_stops load.NoMemory name next old new free why same pour = record {
+matrix_stops load.NoMemory name next names old new free why same pour = record {
   untouched = untouched old new same;
   counts = why;
   silent = refl;

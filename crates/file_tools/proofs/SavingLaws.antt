@@ -1,5 +1,6 @@
 -- Saves that are done one after the other.
 use Rattle.std.proofs.Common.{◌≡◌, ℕ, zero, suc, ◌+◌, ◌-◌, ◌^◌, ◌<◌, ◌≤◌, min, IsTrue, List, [], ◌∷◌, ◌++◌, length, get_or, take, drop, refl, sym, ap, subst, ◌∙◌, append-nil, inr, arith}
+use Rattle.std.specs.Prelude.{map}
 use Rattle.std.specs.FinMap.{insert}
 use Rattle.std.proofs.lemmas.List.{take_more}
 use Rattle.store_io.specs.Outside.{Outside, Files, Poured, SameCounts, HasFailed, IsEither, Rose, OneMore}
@@ -57,9 +58,6 @@ after_one k before mid now first then = then ∙ ap (λ (n : ℕ). min (n + 1) (
 pub opened_next : (k before mid now : ℕ) → mid ≡ opened k before → OneMore mid now → now ≡ opened (k + 1) before
 opened_next k before mid now first then = let next : suc k ≡ k + 1 = omega arith in after_one k before mid now first then ∙ ap (λ (n : ℕ). opened n before) next
 
-pub opened_once : (before now : ℕ) → OneMore before now → now ≡ opened 1 before
-opened_once before now one = after_one 0 before before now (opened_none before) one
-
 count_taken : (xs : List Save) (k : ℕ) → k ≤ length xs → length (take k xs) ≡ k
 count_taken xs zero le = refl
 count_taken [] (suc k) le = absurd (omega arith)
@@ -68,11 +66,11 @@ count_taken (x ∷ xs) (suc k) le = ap suc (count_taken xs k (omega arith))
 -- ---- the end
 
 -- all saves are done
-pub saves_done : (saves : List Save) (n : ℕ) (old new : Outside) (pour : Poured) → n ≡ length saves → (IsTrue old.told → new.files ≡ saved (take n saves) old.files) → new.opens ≡ opened n old.opens → SameCounts old new → IsDone (Ends saves []) [] old new pour pour
-saves_done saves n old new pour count files opens counts = record {
+pub saves_done : (saves : List Save) (names : List (List ℕ)) (n : ℕ) (old new : Outside) (pour : Poured) → map (λ s. s.name) saves ≡ names → n ≡ length saves → (IsTrue old.told → new.files ≡ saved (take n saves) old.files) → new.opens ≡ opened n old.opens → SameCounts old new → IsDone (Ends saves []) names [] old new pour pour
+saves_done saves names n old new pour named count files opens counts = record {
   saves = saves;
   output = [];
-  answered = λ told. refl;
+  ends = record { named = named; answered = λ told. refl };
   files = λ told. files told ∙ ap (λ (xs : List Save). saved xs old.files) (take_all saves n count);
   opens = opens ∙ ap (λ (k : ℕ). opened k old.opens) count;
   gained = λ heard. sym (append-nil pour.bytes);
@@ -88,9 +86,9 @@ fails_later old mid new same failed =
     record { faults = subst P same.faults failed.faults; misses = failed.misses ∙ same.misses }
 
 -- the store failed at this save
-pub save_failed : (saves : List Save) (k : ℕ) (s : Save) (old mid new : Outside) (pour : Poured) → k < length saves → get_or saves k s ≡ s → (IsTrue old.told → mid.files ≡ saved (take k saves) old.files) → mid.opens ≡ opened k old.opens → SameCounts old mid
-    → (IsTrue old.told → IsEither (new.files ≡ mid.files) (HoldsFront mid.files new.files s.name s.text)) → OneMore mid.opens new.opens → HasFailed mid new → StopsAtSave (Ends saves []) (store_fault s.name) old new pour pour
-save_failed saves k s old mid new pour lt is before opens counts then one failed =
+pub save_failed : (saves : List Save) (names : List (List ℕ)) (k : ℕ) (s : Save) (old mid new : Outside) (pour : Poured) → map (λ t. t.name) saves ≡ names → k < length saves → get_or saves k s ≡ s → (IsTrue old.told → mid.files ≡ saved (take k saves) old.files) → mid.opens ≡ opened k old.opens → SameCounts old mid
+    → (IsTrue old.told → IsEither (new.files ≡ mid.files) (HoldsFront mid.files new.files s.name s.text)) → OneMore mid.opens new.opens → HasFailed mid new → StopsAtSave (Ends saves []) names (store_fault s.name) old new pour pour
+save_failed saves names k s old mid new pour named lt is before opens counts then one failed =
     let P : Files → Type 0 = λ files. IsEither (new.files ≡ files) (HoldsFront files new.files s.name s.text) in
     let cut : saves ≡ take k saves ++ s ∷ drop (suc k) saves = cut_at saves k s lt ∙ ap (λ (t : Save). take k saves ++ t ∷ drop (suc k) saves) is in
     record {
@@ -99,7 +97,7 @@ save_failed saves k s old mid new pour lt is before opens counts then one failed
       text = s.text;
       later = drop (suc k) saves;
       output = [];
-      answered = λ told. ap (λ (xs : List Save). done xs []) cut;
+      ends = record { named = ap (λ (xs : List Save). map (λ t. t.name) xs) (sym cut) ∙ named; answered = λ told. ap (λ (xs : List Save). done xs []) cut };
       files = λ told. subst P (before told) (then told);
       opens = after_one k old.opens mid.opens new.opens opens one ∙ ap (λ (n : ℕ). opened (suc n) old.opens) (sym (count_taken saves k (omega (arith, lt))));
       why = record { failed = fails_later old mid new counts failed; line_is = refl };
@@ -112,13 +110,13 @@ pub saves_failed : (e : StoreErr) (old new : Outside) → SavesWhy e old new →
 saves_failed store.Failed old new why = why
 saves_failed store.Missing old new why = absurd why
 
-pub one_saved : (name text : List ℕ) (old new : Outside) → (IsTrue old.told → new.files ≡ insert old.files name text) → OneMore old.opens new.opens → SameCounts old new → (pour : Poured) → IsDone (Ends (save name text ∷ []) []) [] old new pour pour
-one_saved name text old new files one counts pour = saves_done (save name text ∷ []) 1 old new pour refl files (after_one 0 old.opens old.opens new.opens (opened_none old.opens) one) counts
+pub one_saved : (name text : List ℕ) (old new : Outside) → (IsTrue old.told → new.files ≡ insert old.files name text) → OneMore old.opens new.opens → SameCounts old new → (pour : Poured) → IsDone (Ends (save name text ∷ []) []) (name ∷ []) [] old new pour pour
+one_saved name text old new files one counts pour = saves_done (save name text ∷ []) (name ∷ []) 1 old new pour refl refl files (after_one 0 old.opens old.opens new.opens (opened_none old.opens) one) counts
 
-failed_alone : (e : StoreErr) (name text : List ℕ) (old new : Outside) → (IsTrue old.told → IsEither (new.files ≡ old.files) (HoldsFront old.files new.files name text)) → OneMore old.opens new.opens → SavesWhy e old new → Stops (trouble.Failed name) (Ends (save name text ∷ []) []) old new
+failed_alone : (e : StoreErr) (name text : List ℕ) (old new : Outside) → (IsTrue old.told → IsEither (new.files ≡ old.files) (HoldsFront old.files new.files name text)) → OneMore old.opens new.opens → SavesWhy e old new → Stops (trouble.Failed name) (Ends (save name text ∷ []) []) (name ∷ []) old new
 failed_alone e name text old new then one why pour =
-    inr (save_failed (save name text ∷ []) 0 (save name text) old old new pour (omega arith) refl (λ told. refl) (opened_none old.opens) (record { faults = refl; misses = refl }) then one (saves_failed e old new why))
+    inr (save_failed (save name text ∷ []) (name ∷ []) 0 (save name text) old old new pour refl (omega arith) refl (λ told. refl) (opened_none old.opens) (record { faults = refl; misses = refl }) then one (saves_failed e old new why))
 
 -- the name was lent
-pub one_failed : (e : StoreErr) (lent name text : List ℕ) (old new : Outside) → lent ≡ name → (IsTrue old.told → IsEither (new.files ≡ old.files) (HoldsFront old.files new.files lent text)) → OneMore old.opens new.opens → SavesWhy e old new → Stops (trouble.Failed name) (Ends (save name text ∷ []) []) old new
-one_failed e lent name text old new is then one why = subst (λ (n : List ℕ). Stops (trouble.Failed n) (Ends (save n text ∷ []) []) old new) is (failed_alone e lent text old new then one why)
+pub one_failed : (e : StoreErr) (lent name text : List ℕ) (old new : Outside) → lent ≡ name → (IsTrue old.told → IsEither (new.files ≡ old.files) (HoldsFront old.files new.files lent text)) → OneMore old.opens new.opens → SavesWhy e old new → Stops (trouble.Failed name) (Ends (save name text ∷ []) []) (name ∷ []) old new
+one_failed e lent name text old new is then one why = subst (λ (n : List ℕ). Stops (trouble.Failed n) (Ends (save n text ∷ []) []) (n ∷ []) old new) is (failed_alone e lent text old new then one why)

@@ -1,21 +1,18 @@
 -- How the tool ends, by what a command answers.
 use Rattle.std.proofs.Common.{◌≡◌, ◌==◌, ◌||◌, ℕ, Bool, true, false, IsTrue, List, [], ◌∷◌, Result, Ok, Err, refl, sym, ap, subst, ◌∙◌, append-nil, inl}
-use Rattle.std.specs.Prelude.{Option, Some, None, OnOk, find}
+use Rattle.std.specs.Prelude.{Option, Some, None, find}
 use Rattle.store_io.specs.Outside.{Outside, Poured}
 use Rattle.std.specs.Str.{bytes_eq}
-use Rattle.tool_words.specs.CommandNames.{name_of}
+use Rattle.tool_words.specs.CommandNames as commands
 use Rattle.tool_words.specs.CommandWords.{asked, command_of, command_named}
 use Rattle.tool_words.specs.declared.command.Command.{Command}
 use Rattle.tool_words.specs.declared.command.Command.TheVariants as command
-use Rattle.tool_words.specs.declared.asked.Asked.TheVariants as asks
 use Rattle.tool_words.proofs.WithinLaws.{asked_command}
 use Rattle.tool_words.specs.declared.asked.Asked.{Asked}
 use Rattle.file_tools.specs.Texts.{usage}
 use Rattle.file_tools.specs.Walk.{Walk}
-use Rattle.file_tools.specs.ToolWalk.{built, saves_asked, asked_walk, usage_walk, walk_of}
-use Rattle.file_tools.specs.SplitWalk.{split_walk}
-use Rattle.file_tools.specs.JoinWalk.{join_walk}
-use Rattle.file_tools.specs.Outcome.{IsOutcome, Leaves, Gains, opened}
+use Rattle.file_tools.specs.ToolWalk.{built, names_asked, asked_walk, usage_walk, walk_of, saved_names}
+use Rattle.file_tools.specs.Outcome.{IsOutcome, Leaves, Gains}
 use Rattle.file_tools.specs.Troubles.{Follows, status_of, status_in, line_in}
 use Rattle.file_tools.proofs.GoingOn.{never_words}
 use Rattle.file_tools.specs.declared.status.Status.{Status}
@@ -36,33 +33,33 @@ not_done (trouble.Piece name line fault) e = cc
 not_done (trouble.TooMany words) e = cc
 not_done trouble.NoMemory e = cc
 
-walk_is : (words : List (List ℕ)) (o : Option Asked) → o ≡ asked built words → asked_walk o ≡ walk_of words
-unfolding walk_of
-walk_is words o e = ap asked_walk e
+asked_ends : (words : List (List ℕ)) (o : Option Asked) (s : Status) (old new : Outside) (pour quiet said : Poured) → o ≡ asked built words → IsOutcome s (asked_walk o) (names_asked o) old new pour pour quiet said → IsOutcome s (walk_of words) (saved_names words) old new pour pour quiet said
+unfolding walk_of saved_names
+asked_ends words o s old new pour quiet said e = subst (λ (p : Option Asked). IsOutcome s (asked_walk p) (names_asked p) old new pour pour quiet said) e
 
-leaves_in : {X : Type 0} (r : Result X Trouble) (w : Walk) (old new : Outside) (pour : Poured) → Follows r w old new pour pour → Leaves (status_in r) w (line_in r) old new pour pour
-leaves_in (Ok x) w old new pour h = h
-leaves_in (Err t) w old new pour h = h
+leaves_in : {X : Type 0} (r : Result X Trouble) (w : Walk) (names : List (List ℕ)) (old new : Outside) (pour : Poured) → Follows r w names old new pour pour → Leaves (status_in r) w names (line_in r) old new pour pour
+leaves_in (Ok x) w names old new pour h = h
+leaves_in (Err t) w names old new pour h = h
 
 -- a command that follows its walk
-pub command_ends : {X : Type 0} (r : Result X Trouble) (words : List (List ℕ)) (o : Option Asked) (s : Status) (old new : Outside) (pour quiet said : Poured) → o ≡ asked built words → s ≡ status_in r → ((p : Poured) → Follows r (asked_walk o) old new p p)
-    → (IsTrue quiet.told → Gains quiet said (line_in r)) → (s ≡ status.Done → said ≡ quiet) → IsOutcome s (walk_of words) old new pour pour quiet said
-command_ends r words o s old new pour quiet said are is follows says silent =
-    let P : Walk → Type 0 = λ w. IsOutcome s w old new pour pour quiet said in
-    let Q : Status → Type 0 = λ t. Leaves t (asked_walk o) (line_in r) old new pour pour in
-    subst P (walk_is words o are) (record { line = line_in r; leaves = subst Q (sym is) (leaves_in r (asked_walk o) old new pour (follows pour)); says = says; silent = silent })
+pub command_ends : {X : Type 0} (r : Result X Trouble) (words : List (List ℕ)) (o : Option Asked) (w : Walk) (names : List (List ℕ)) (s : Status) (old new : Outside) (pour quiet said : Poured) → o ≡ asked built words → w ≡ asked_walk o → names ≡ names_asked o → s ≡ status_in r → ((p : Poured) → Follows r w names old new p p)
+    → (IsTrue quiet.told → Gains quiet said (line_in r)) → (s ≡ status.Done → said ≡ quiet) → IsOutcome s (walk_of words) (saved_names words) old new pour pour quiet said
+command_ends r words o w names s old new pour quiet said are walk named is follows says silent =
+    let P : Walk → Type 0 = λ v. Leaves s v names (line_in r) old new pour pour in
+    let Q : List (List ℕ) → Type 0 = λ ns. Leaves s (asked_walk o) ns (line_in r) old new pour pour in
+    let R : Status → Type 0 = λ t. Leaves t w names (line_in r) old new pour pour in
+    asked_ends words o s old new pour quiet said are (record { line = line_in r; leaves = subst Q named (subst P walk (subst R (sym is) (leaves_in r w names old new pour (follows pour)))); says = says; silent = silent })
 
-usage_leaves : (old : Outside) (pour : Poured) → Leaves status.Words usage_walk usage old old pour pour
+usage_leaves : (names : List (List ℕ)) (old : Outside) (pour : Poured) → Leaves status.Words usage_walk names usage old old pour pour
 unfolding usage_walk
-usage_leaves old pour = record { walk_is = refl; untouched = record { files = refl; opens = refl }; counts = record { faults = refl; misses = refl }; silent = refl }
+usage_leaves names old pour = record { walk_is = refl; untouched = record { files = refl; opens = refl }; counts = record { faults = refl; misses = refl }; silent = refl }
 
 -- words that ask for no command
-pub usage_ends : (words : List (List ℕ)) (o : Option Asked) (s : Status) (old : Outside) (pour quiet said : Poured) → o ≡ asked built words → asked_walk o ≡ usage_walk → s ≡ status.Words → (IsTrue quiet.told → Gains quiet said usage) → IsOutcome s (walk_of words) old old pour pour quiet said
+pub usage_ends : (words : List (List ℕ)) (o : Option Asked) (s : Status) (old : Outside) (pour quiet said : Poured) → o ≡ asked built words → asked_walk o ≡ usage_walk → s ≡ status.Words → (IsTrue quiet.told → Gains quiet said usage) → IsOutcome s (walk_of words) (saved_names words) old old pour pour quiet said
 usage_ends words o s old pour quiet said are is outside says =
-    let P : Walk → Type 0 = λ w. IsOutcome s w old old pour pour quiet said in
-    let Q : Walk → Type 0 = λ w. Leaves status.Words w usage old old pour pour in
-    let R : Status → Type 0 = λ t. Leaves t (asked_walk o) usage old old pour pour in
-    subst P (walk_is words o are) (record { line = usage; leaves = subst R (sym outside) (subst Q (sym is) (usage_leaves old pour)); says = says; silent = λ e. absurd (words_not_done s outside e) })
+    let Q : Walk → Type 0 = λ w. Leaves status.Words w (names_asked o) usage old old pour pour in
+    let R : Status → Type 0 = λ t. Leaves t (asked_walk o) (names_asked o) usage old old pour pour in
+    asked_ends words o s old old pour quiet said are (record { line = usage; leaves = subst R (sym outside) (subst Q (sym is) (usage_leaves (names_asked o) old pour)); says = says; silent = λ e. absurd (words_not_done s outside e) })
   where
     words_not_done : (s : Status) → s ≡ status.Words → s ≡ status.Done → ⊥
     words_not_done s e f = cc
@@ -105,7 +102,7 @@ found p (d ∷ ds) c e = by (p d) refl e (λ rest. found p ds c rest)
     by false f e later = let rest : find p ds ≡ Some c = rw f at e in or_true (number c == number d) (is_among c ds) (later rest)
 
 named : (word : List ℕ) (cs : List Command) (c : Command) → command_named cs word ≡ Some c → is_among c cs ≡ true
-named word cs c e = found (λ d. bytes_eq (name_of d) word) cs c e
+named word cs c e = found (λ d. bytes_eq (commands.name_of d) word) cs c e
 
 -- no words ask for a command that isn't built
 pub no_other : (words : List (List ℕ)) (a : Asked) → Some a ≡ asked built words → is_among (command_of a) built ≡ false → asked built words ≡ None
@@ -119,25 +116,3 @@ no_other words a e other =
 pub never_usage : {X : Type 0} (r : Result X Trouble) (s : Status) → s ≡ status_in r → s ≡ status.Words → ⊥
 never_usage (Ok x) s e f = cc
 never_usage (Err t) s e f = never_words t (sym e ∙ f)
-
--- a command that is done has opened as many files as the words ask
-pub done_opens : {X : Type 0} (r : Result X Trouble) (words : List (List ℕ)) (o : Option Asked) (s : Status) (old new : Outside) → o ≡ asked built words → s ≡ status_in r → OnOk r (new.opens ≡ opened (saves_asked o) old.opens) → s ≡ status.Done
-    → new.opens ≡ opened (saves_asked (asked built words)) old.opens
-done_opens (Ok x) words o s old new are is opens done = opens ∙ ap (λ (p : Option Asked). opened (saves_asked p) old.opens) are
-done_opens (Err t) words o s old new are is opens done = absurd (not_done t (sym is ∙ done))
-
--- a split whose words the code holds so
-pub split_ends : {X : Type 0} (r : Result X Trouble) (words : List (List ℕ)) (input output name prefix : List ℕ) (p q mb nb : ℕ) (s : Status) (old new : Outside) (pour quiet said : Poured) → Some (asks.Split input output p q mb nb) ≡ asked built words → name ≡ input → prefix ≡ output → s ≡ status_in r
-    → ((x : Poured) → Follows r (split_walk name (record { prefix = prefix; nprow = p; npcol = q; mb = mb; nb = nb })) old new x x) → (IsTrue quiet.told → Gains quiet said (line_in r)) → (s ≡ status.Done → said ≡ quiet) → IsOutcome s (walk_of words) old new pour pour quiet said
-split_ends r words input output name prefix p q mb nb s old new pour quiet said are names prefixes is follows says silent =
-    let P : List ℕ → Type 0 = λ n. (x : Poured) → Follows r (split_walk n (record { prefix = prefix; nprow = p; npcol = q; mb = mb; nb = nb })) old new x x in
-    let Q : List ℕ → Type 0 = λ t. (x : Poured) → Follows r (split_walk input (record { prefix = t; nprow = p; npcol = q; mb = mb; nb = nb })) old new x x in
-    command_ends r words (Some (asks.Split input output p q mb nb)) s old new pour quiet said are is (subst Q prefixes (subst P names follows)) says silent
-
--- a join whose words the code holds so
-pub join_ends : {X : Type 0} (r : Result X Trouble) (words : List (List ℕ)) (prefix output given name : List ℕ) (s : Status) (old new : Outside) (pour quiet said : Poured) → Some (asks.Join prefix output) ≡ asked built words → given ≡ prefix → name ≡ output → s ≡ status_in r
-    → ((x : Poured) → Follows r (join_walk given name) old new x x) → (IsTrue quiet.told → Gains quiet said (line_in r)) → (s ≡ status.Done → said ≡ quiet) → IsOutcome s (walk_of words) old new pour pour quiet said
-join_ends r words prefix output given name s old new pour quiet said are prefixes names is follows says silent =
-    let P : List ℕ → Type 0 = λ n. (x : Poured) → Follows r (join_walk given n) old new x x in
-    let Q : List ℕ → Type 0 = λ t. (x : Poured) → Follows r (join_walk t output) old new x x in
-    command_ends r words (Some (asks.Join prefix output)) s old new pour quiet said are is (subst Q prefixes (subst P names follows)) says silent

@@ -8,6 +8,7 @@ pub use Rattle.tool_words.specs.CommandNames
 pub use Rattle.tool_words.specs.Given
 pub use Rattle.tool_words.specs.CommandWords
 pub mod Target
+pub mod Lists
 pub use Rattle.spread_cells.specs.Spreading
 pub use Rattle.spread_cells.specs.Owned
 pub use Rattle.spread_cells.specs.PieceView
@@ -30,7 +31,6 @@ pub mod ReadingWalks
 pub mod Causes
 pub mod Troubles
 pub mod TargetView
-pub mod Lists
 pub mod SplitWalk
 pub mod JoinWalk
 pub mod ToolWalk

@@ -1,6 +1,6 @@
 -- What a call leaves, by its status: the store before and after it (old, new), the output before and after it (before,
--- after), and the line that is said on the error stream.
-use Rattle.std.specs.Prelude.{◌≡◌, ℕ, zero, suc, ◌+◌, ◌-◌, ◌^◌, min, IsTrue, List, [], ◌∷◌, ◌++◌, length}
+-- after), and the line that is said on the error stream. The words alone tell the names of the files that are to be saved.
+use Rattle.std.specs.Prelude.{◌≡◌, ℕ, zero, suc, ◌+◌, ◌-◌, ◌^◌, min, IsTrue, List, [], ◌∷◌, ◌++◌, length, map}
 use Rattle.store_io.specs.Outside.{Outside, Poured, SameCounts, HasFailed, HasMissed, Rose, IsEither}
 use Rattle.text_io.specs.Saving.{HoldsFront}
 use Rattle.file_tools.specs.Texts.{missing, store_fault, out_of_memory, output_fault}
@@ -20,15 +20,16 @@ unfoldable pub opened : (more before : ℕ) → ℕ
 opened zero before = before
 opened (suc more) before = min (opened more before + 1) (2 ^ 64 - 1)
 
--- the walk ends with these saves and this output
-abbrev pub EndsWith : (walk : Walk) → List Save → (output : List ℕ) → (old : Outside) → Type 0
-EndsWith walk saves output old = IsTrue old.told → answer walk old.files ≡ done saves output
+-- The walk ends with these saves and this output. Their names are those that the words tell.
+pub record EndsWith (walk : Walk) (names : List (List ℕ)) (saves : List Save) (output : List ℕ) (old : Outside) : Type 0 where
+  pub named : map (λ s. s.name) saves ≡ names
+  pub answered : IsTrue old.told → answer walk old.files ≡ done saves output
 
 -- All was done that the walk asks for, with one opening for each save.
-pub record IsDone (walk : Walk) (line : List ℕ) (old new : Outside) (before after : Poured) : Type 0 where
+pub record IsDone (walk : Walk) (names : List (List ℕ)) (line : List ℕ) (old new : Outside) (before after : Poured) : Type 0 where
   pub saves : List Save
   pub output : List ℕ
-  pub answered : EndsWith walk saves output old
+  pub ends : EndsWith walk names saves output old
   pub files : IsTrue old.told → new.files ≡ saved saves old.files
   pub opens : new.opens ≡ opened (length saves) old.opens
   pub gained : IsTrue before.told → after.bytes ≡ before.bytes ++ output
@@ -71,13 +72,13 @@ pub record StopsAtNeed (walk : Walk) (line : List ℕ) (old new : Outside) (befo
 
 -- The store failed at a save. Those before it are done, its file has its old contents or a front of its text, and every
 -- other file is as before. No later save was begun.
-pub record StopsAtSave (walk : Walk) (line : List ℕ) (old new : Outside) (before after : Poured) : Type 0 where
+pub record StopsAtSave (walk : Walk) (names : List (List ℕ)) (line : List ℕ) (old new : Outside) (before after : Poured) : Type 0 where
   pub first : List Save
   pub name : List ℕ
   pub text : List ℕ
   pub later : List Save
   pub output : List ℕ
-  pub answered : EndsWith walk (first ++ save name text ∷ later) output old
+  pub ends : EndsWith walk names (first ++ save name text ∷ later) output old
   pub files : IsTrue old.told → IsEither (new.files ≡ saved first old.files) (HoldsFront (saved first old.files) new.files name text)
   pub opens : new.opens ≡ opened (suc (length first)) old.opens
   pub why : FailsAtFile name line old new
@@ -91,10 +92,10 @@ pub record WantsMemory (line : List ℕ) (old new : Outside) (before after : Pou
   pub line_is : line ≡ out_of_memory
 
 -- All saves are done, and the output failed: it gained some front of what it was to gain.
-pub record FailsAtOutput (walk : Walk) (line : List ℕ) (old new : Outside) (before after : Poured) : Type 0 where
+pub record FailsAtOutput (walk : Walk) (names : List (List ℕ)) (line : List ℕ) (old new : Outside) (before after : Poured) : Type 0 where
   pub saves : List Save
   pub output : List ℕ
-  pub answered : EndsWith walk saves output old
+  pub ends : EndsWith walk names saves output old
   pub files : IsTrue old.told → new.files ≡ saved saves old.files
   pub opens : new.opens ≡ opened (length saves) old.opens
   pub gained : IsTrue before.told → SaysFront before after output
@@ -103,22 +104,22 @@ pub record FailsAtOutput (walk : Walk) (line : List ℕ) (old new : Outside) (be
   pub line_is : line ≡ output_fault
 
 -- what a call leaves that ends with this status and this line
-abbrev pub Leaves : Status → (walk : Walk) → (line : List ℕ) → (old new : Outside) → (before after : Poured) → Type 0
-Leaves status.Done walk line old new before after = IsDone walk line old new before after
-Leaves status.Refused walk line old new before after = IsRefused walk line old new before after
-Leaves status.Words walk line old new before after = IsUsage walk line old new before after
-Leaves status.Store walk line old new before after = IsEither (StopsAtNeed walk line old new before after) (StopsAtSave walk line old new before after)
-Leaves status.NoMemory walk line old new before after = WantsMemory line old new before after
-Leaves status.Sink walk line old new before after = FailsAtOutput walk line old new before after
+abbrev pub Leaves : Status → (walk : Walk) → (names : List (List ℕ)) → (line : List ℕ) → (old new : Outside) → (before after : Poured) → Type 0
+Leaves status.Done walk names line old new before after = IsDone walk names line old new before after
+Leaves status.Refused walk names line old new before after = IsRefused walk line old new before after
+Leaves status.Words walk names line old new before after = IsUsage walk line old new before after
+Leaves status.Store walk names line old new before after = IsEither (StopsAtNeed walk line old new before after) (StopsAtSave walk names line old new before after)
+Leaves status.NoMemory walk names line old new before after = WantsMemory line old new before after
+Leaves status.Sink walk names line old new before after = FailsAtOutput walk names line old new before after
 
 -- an error stream gained the line; or it failed, and gained some front of it
 abbrev pub Gains : Poured → Poured → List ℕ → Type 0
 Gains old new line = IsEither (new.bytes ≡ old.bytes ++ line) (SaysFront old new line × Rose old.faults new.faults)
 
 -- The same with the error stream before and after it (quiet, said). A fault of the error stream changes no status.
-pub record IsOutcome (s : Status) (walk : Walk) (old new : Outside) (before after quiet said : Poured) : Type 0 where
+pub record IsOutcome (s : Status) (walk : Walk) (names : List (List ℕ)) (old new : Outside) (before after quiet said : Poured) : Type 0 where
   pub line : List ℕ
-  pub leaves : Leaves s walk line old new before after
+  pub leaves : Leaves s walk names line old new before after
   pub says : IsTrue quiet.told → Gains quiet said line
   pub silent : s ≡ status.Done → said ≡ quiet
 

@@ -5,6 +5,7 @@ use Rattle.tool_words.specs.declared.command.Command.{Command}
 use Rattle.tool_words.specs.declared.command.Command.TheVariants as command
 use Rattle.tool_words.specs.declared.asked.Asked.{Asked}
 use Rattle.tool_words.specs.declared.asked.Asked.TheVariants as asks
+use Rattle.file_tools.specs.Lists.{names_by}
 use Rattle.file_tools.specs.Texts.{usage}
 use Rattle.file_tools.specs.Walk.{Walk, Refuses}
 use Rattle.file_tools.specs.SplitWalk.{split_walk}
@@ -28,16 +29,19 @@ asked_walk (Some (asks.Run program how)) = usage_walk
 asked_walk (Some (asks.Load seed size)) = usage_walk
 asked_walk None = usage_walk
 
--- how many files the words ask to be saved
-abbrev pub saves_asked : Option Asked → ℕ
-saves_asked (Some (asks.Split input output p q mb nb)) = p * q
-saves_asked (Some (asks.Join prefix output)) = 1
-saves_asked (Some (asks.Move prefix output p q mb nb how)) = 0
-saves_asked (Some (asks.Check program)) = 0
-saves_asked (Some (asks.Run program how)) = 0
-saves_asked (Some (asks.Load seed size)) = 0
-saves_asked None = 0
+-- the names of the files that the words ask to be saved, in their order
+abbrev pub names_asked : Option Asked → List (List ℕ)
+names_asked (Some (asks.Split input output p q mb nb)) = names_by output q (p * q)
+names_asked (Some (asks.Join prefix output)) = output ∷ []
+names_asked (Some (asks.Move prefix output p q mb nb how)) = []
+names_asked (Some (asks.Check program)) = []
+names_asked (Some (asks.Run program how)) = []
+names_asked (Some (asks.Load seed size)) = []
+names_asked None = []
 
--- The walk of these words.
+-- The walk of these words, and the names of what it saves.
 unfoldable pub walk_of : List (List ℕ) → Walk
 walk_of words = asked_walk (asked built words)
+
+unfoldable pub saved_names : List (List ℕ) → List (List ℕ)
+saved_names words = names_asked (asked built words)

@@ -29,13 +29,13 @@ line_of (TooMany words) = too_many_words words
 line_of NoMemory = out_of_memory
 
 -- what a command leaves that follows this walk, by what it answers
-abbrev pub Follows : {X : Type 0} → Result X Trouble → (walk : Walk) → (old new : Outside) → (before after : Poured) → Type 0
-Follows (Ok x) walk old new before after = Leaves status.Done walk [] old new before after
-Follows (Err trouble) walk old new before after = Leaves (status_of trouble) walk (line_of trouble) old new before after
+abbrev pub Follows : {X : Type 0} → Result X Trouble → (walk : Walk) → (names : List (List ℕ)) → (old new : Outside) → (before after : Poured) → Type 0
+Follows (Ok x) walk names old new before after = Leaves status.Done walk names [] old new before after
+Follows (Err trouble) walk names old new before after = Leaves (status_of trouble) walk names (line_of trouble) old new before after
 
 -- a command stops at this trouble, and its output is as it was
-abbrev pub Stops : Trouble → (walk : Walk) → (old new : Outside) → Type 0
-Stops trouble walk old new = (pour : Poured) → Leaves (status_of trouble) walk (line_of trouble) old new pour pour
+abbrev pub Stops : Trouble → (walk : Walk) → (names : List (List ℕ)) → (old new : Outside) → Type 0
+Stops trouble walk names old new = (pour : Poured) → Leaves (status_of trouble) walk names (line_of trouble) old new pour pour
 
 -- what reading leaves where it goes on
 pub record ReadsOn (old new : Outside) : Type 0 where

@@ -1,8 +1,8 @@
 -- A command as a walk over the files: what it reads, one file after the other, and where that ends.
-use Rattle.std.specs.Prelude.{◌≡◌, ℕ, List, Option, Some, None}
+use Rattle.std.specs.Prelude.{◌≡◌, ℕ, ◌^◌, nat_le, if◌then◌else◌, List, Option, Some, None}
 use Rattle.std.specs.FinMap.{get}
 use Rattle.store_io.specs.Outside.{Files, IsEither}
-use Rattle.file_tools.specs.Texts.{missing}
+use Rattle.file_tools.specs.Texts.{missing, too_many_words}
 use Rattle.file_tools.specs.Answer.{Save, Answer, refused, done}
 use Rattle.file_tools.specs.declared.status.Status.{Status}
 use Rattle.file_tools.specs.declared.status.Status.TheVariants as status
@@ -14,6 +14,10 @@ pub data Walk : Type 0 where
   Refuses : (line : List ℕ) → Status → Walk
   -- saves these files in their order, and has this output
   Ends : List Save → (output : List ℕ) → Walk
+
+-- a job goes on where it has at most 2^26 words, and is refused above that
+unfoldable pub within_limit : (words : ℕ) → Walk → Walk
+within_limit words next = if nat_le words (2 ^ 26) then next else Refuses (too_many_words words) status.Refused
 
 -- a file that isn't held ends a walk
 abbrev pub held_answer : (name : List ℕ) → Option (List ℕ) → (List ℕ → Answer) → Answer

@@ -1,5 +1,5 @@
 //! The command `join`.
-ghost use Rattle.std.specs.Prelude.{◌≡◌, ◌+◌, ◌*◌, ◌^◌, ◌≤◌, max, length, map, IfOk, OnOk};
+ghost use Rattle.std.specs.Prelude.{◌≡◌, ◌+◌, ◌*◌, ◌^◌, ◌≤◌, ◌∷◌, [], max, length, map, IfOk};
 ghost use Rattle.store_io.specs.Outside.{Poured};
 ghost use Rattle.piece_grammar.specs.Head.{IsHead, layout_of as spread_of, array_words as words_of_head};
 ghost use Rattle.piece_grammar.specs.Pieces.{words_of};
@@ -8,9 +8,9 @@ ghost use Rattle.piece_file.specs.PieceView.{piece_view};
 ghost use Rattle.piece_file.specs.Gathering.{AreTurns};
 ghost use Rattle.spread_cells.specs.LayoutView.{layout_view};
 ghost use Rattle.file_tools.specs.JoinWalk.{array_of, layout_by, whole_walk, join_walk};
-ghost use Rattle.file_tools.specs.Outcome.{opened};
 ghost use Rattle.file_tools.specs.Troubles.{Follows};
 
+use crate::job::LIMIT;
 use crate::reading::read_pieces;
 use crate::saving::save_matrix;
 use crate::trouble::Trouble;
@@ -19,8 +19,6 @@ use piece_file::{Head, Name, Piece};
 use spread_cells::{JoinedCells, Layout};
 use std::alloc::{AllocError, Global};
 use store_io::Store;
-
-const LIMIT: u64 = 1 << 26;
 
 // The words of a piece's local array.
 fn array_words(piece: &Piece) -> u64
@@ -101,10 +99,9 @@ fn join_whole<S: Store>(
     output: Name,
 ) -> Result<(), Trouble>
     requires { AreTurns (map piece_view pieces.items) }
-    ensures follows { (pour : Poured) →
-        Follows result (whole_walk output (map piece_view pieces.items)) (S.state store.old)
+    ensures { (pour : Poured) →
+        Follows result (whole_walk output (map piece_view pieces.items)) (output ∷ []) (S.state store.old)
         (S.state store.new) pour pour }
-    ensures opens { OnOk result ((S.state store.new).opens ≡ opened 1 (S.state store.old).opens) }
 {
     let layout = layout_by_first(&pieces);
     let words = pieces_words(&pieces) + whole_words(&layout);
@@ -117,16 +114,14 @@ fn join_whole<S: Store>(
 }
 
 /// Gathers the pieces, joins them, and writes the whole matrix to the file `output`.
-#[tactic(auto, using(crate::proofs::JoinLaws::join_goes_on, crate::proofs::JoinLaws::join_stops))]
 pub(crate) fn run_join<S: Store>(
     alloc: Global,
     store: &mut S,
     prefix: &str,
     output: Name,
 ) -> Result<(), Trouble>
-    ensures follows { (pour : Poured) →
-        Follows result (join_walk prefix.now output) (S.state store.old) (S.state store.new) pour pour }
-    ensures opens { OnOk result ((S.state store.new).opens ≡ opened 1 (S.state store.old).opens) }
+    ensures { (pour : Poured) →
+        Follows result (join_walk prefix.now output) (output ∷ []) (S.state store.old) (S.state store.new) pour pour }
 {
     let pieces = read_pieces(alloc, store, prefix)?;
     join_whole(alloc, store, pieces, output)

@@ -1,5 +1,5 @@
 //! What a command reads before it saves: a matrix, or all pieces of a prefix.
-ghost use Rattle.std.specs.Prelude.{IsTrue, IfOk, IfErr, OnOk, List, map};
+ghost use Rattle.std.specs.Prelude.{ℕ, IsTrue, IfOk, IfErr, OnOk, List, map};
 ghost use Rattle.mm_grammar.specs.Matrix.{Matrix};
 ghost use Rattle.mm_text.specs.Loading.{matrix_of};
 ghost use Rattle.piece_grammar.specs.Head as grammar;
@@ -24,8 +24,8 @@ pub(crate) fn read_input<S: Store>(
 ) -> Result<Whole, Trouble>
     ensures comes { (next : Matrix → Walk) → IsTrue (S.state store.old).told →
         IfOk result (λ w. Comes (matrix_walk name next) (S.state store.old).files (next (matrix_of w))) }
-    ensures stops { (next : Matrix → Walk) →
-        IfErr result (λ t. Stops t (matrix_walk name next) (S.state store.old) (S.state store.new)) }
+    ensures stops { (next : Matrix → Walk) (names : List (List ℕ)) →
+        IfErr result (λ t. Stops t (matrix_walk name next) names (S.state store.old) (S.state store.new)) }
     ensures ok { OnOk result (ReadsOn (S.state store.old) (S.state store.new)) }
 {
     match read_matrix(alloc, store, name.as_str()) {
@@ -43,8 +43,8 @@ pub(crate) fn read_pieces<S: Store>(
 ) -> Result<Vec<Piece>, Trouble>
     ensures comes { (next : List grammar.Piece → Walk) → IsTrue (S.state store.old).told →
         IfOk result (λ ps. Comes (pieces_walk prefix.now next) (S.state store.old).files (next (map piece_view ps.items))) }
-    ensures stops { (next : List grammar.Piece → Walk) →
-        IfErr result (λ t. Stops t (pieces_walk prefix.now next) (S.state store.old) (S.state store.new)) }
+    ensures stops { (next : List grammar.Piece → Walk) (names : List (List ℕ)) →
+        IfErr result (λ t. Stops t (pieces_walk prefix.now next) names (S.state store.old) (S.state store.new)) }
     ensures ok { OnOk result (ReadsOn (S.state store.old) (S.state store.new)) }
     ensures turns { IfOk result (λ ps. AreTurns (map piece_view ps.items)) }
 {

@@ -1,10 +1,9 @@
 //! Saving one matrix.
-ghost use Rattle.std.specs.Prelude.{◌≡◌, ◌*◌, ◌^◌, ◌≤◌, [], ◌∷◌, OnOk};
+ghost use Rattle.std.specs.Prelude.{◌≡◌, ◌*◌, ◌^◌, ◌≤◌, [], ◌∷◌};
 ghost use Rattle.store_io.specs.Outside.{Poured};
 ghost use Rattle.mm_grammar.specs.PlainText.{plain_text};
 ghost use Rattle.file_tools.specs.Answer.{save};
 ghost use Rattle.file_tools.specs.Walk.{Ends};
-ghost use Rattle.file_tools.specs.Outcome.{opened};
 ghost use Rattle.file_tools.specs.Troubles.{Follows};
 
 use crate::trouble::Trouble;
@@ -13,7 +12,7 @@ use piece_file::Name;
 use store_io::Store;
 
 /// Saves the text of a matrix.
-#[tactic(auto, using(crate::proofs::SavingLaws::one_saved, crate::proofs::SavingLaws::opened_once))]
+#[tactic(auto, using(crate::proofs::SavingLaws::one_saved))]
 pub(crate) fn save_matrix<S: Store, C: Cells>(
     store: &mut S,
     name: Name,
@@ -22,10 +21,9 @@ pub(crate) fn save_matrix<S: Store, C: Cells>(
     requires rows { (C.matrix cells.now).rows ≤ 2 ^ 24 }
     requires columns { (C.matrix cells.now).columns ≤ 2 ^ 24 }
     requires area { (C.matrix cells.now).rows * (C.matrix cells.now).columns ≤ 2 ^ 26 }
-    ensures follows { (pour : Poured) →
-        Follows result (Ends (save name (plain_text (C.matrix cells.now)) ∷ []) []) (S.state store.old)
+    ensures { (pour : Poured) →
+        Follows result (Ends (save name (plain_text (C.matrix cells.now)) ∷ []) []) (name ∷ []) (S.state store.old)
         (S.state store.new) pour pour }
-    ensures opens { OnOk result ((S.state store.new).opens ≡ opened 1 (S.state store.old).opens) }
 {
     match write_matrix(store, name.as_str(), cells) {
         Ok(()) => Ok(()),

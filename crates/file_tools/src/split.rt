@@ -1,5 +1,5 @@
 //! The command `split`.
-ghost use Rattle.std.specs.Prelude.{◌≡◌, ◌<◌, ◌≤◌, ◌*◌, ◌^◌, [], length, slice_index_or, IsTrue, OnOk};
+ghost use Rattle.std.specs.Prelude.{◌≡◌, ◌<◌, ◌≤◌, ◌*◌, ◌^◌, [], length, slice_index_or, IsTrue};
 ghost use Rattle.store_io.specs.Outside.{Poured};
 ghost use Rattle.text_io.specs.Saving.{Saves, SavesCause, OpensOnce};
 ghost use Rattle.index_tools.specs.Spread.{spread};
@@ -8,13 +8,12 @@ ghost use Rattle.spread_cells.specs.PieceView.{piece_matrix};
 ghost use Rattle.spread_cells.specs.Owned.{lists_of, owned_by};
 ghost use Rattle.piece_file.specs.HeadView.{head_view};
 ghost use Rattle.file_tools.specs.Walk.{Ends};
-ghost use Rattle.file_tools.specs.SplitWalk.{words_of, job_words, head_of, cells_of, name_of, text_of, saves_of, job_walk, split_walk};
+ghost use Rattle.file_tools.specs.SplitWalk.{words_of, job_words, head_of, cells_of, name_of, text_of, saves_of, job_walk, split_walk, piece_names};
 ghost use Rattle.file_tools.specs.TargetView.{target_view};
 ghost use Rattle.file_tools.specs.Lists.{texts_of, names_by};
-ghost use Rattle.file_tools.specs.Outcome.{opened};
 ghost use Rattle.file_tools.specs.Troubles.{Follows};
 
-use crate::job::{Pieces, prepare};
+use crate::job::{LIMIT, Pieces, prepare};
 use crate::reading::read_input;
 use crate::target::Target;
 use crate::trouble::Trouble;
@@ -24,8 +23,6 @@ use piece_file::{Head, Name, write_cells};
 use spread_cells::PieceCells;
 use std::alloc::Global;
 use store_io::{Store, StoreErr};
-
-const LIMIT: u64 = 1 << 26;
 
 // The words of piece `k`'s local array.
 fn piece_words(target: &Target<'_>, rows: u32, columns: u32, k: u32) -> u64
@@ -162,11 +159,9 @@ fn save_pieces<S: Store>(
         whole.now.rows target.now.nprow }
     requires columns { lists_of pieces.columns.items ≡ owned_by
         (spread target.now.nb 0 target.now.npcol) whole.now.columns target.now.npcol }
-    ensures follows { (pour : Poured) →
+    ensures { (pour : Poured) →
         Follows result (Ends (saves_of (target_view target.now) (matrix_of whole.now)) [])
-        (S.state store.old) (S.state store.new) pour pour }
-    ensures opens { OnOk result ((S.state store.new).opens ≡ opened (target.now.nprow * target.now.npcol)
-        (S.state store.old).opens) }
+        (piece_names (target_view target.now)) (S.state store.old) (S.state store.new) pour pour }
 {
     for k in 0..target.nprow * target.npcol {
         match save_piece(store, target, whole, &pieces, k) {
@@ -178,18 +173,17 @@ fn save_pieces<S: Store>(
 }
 
 // Spreads the matrix over the grid, and writes the pieces. All memory is taken before the first file is opened for writing.
-#[tactic(auto, using(crate::proofs::SplitLaws::large_stops, crate::proofs::SplitLaws::small_follows, crate::proofs::GoingOn::wants_memory))]
+#[tactic(auto, using(crate::proofs::LimitLaws::large_stops, crate::proofs::LimitLaws::small_follows, crate::proofs::GoingOn::wants_memory))]
 fn split_whole<S: Store>(
     alloc: Global,
     store: &mut S,
     target: &Target<'_>,
     whole: &Whole,
 ) -> Result<(), Trouble>
-    ensures follows { (pour : Poured) →
-        Follows result (job_walk (target_view target.now) (matrix_of whole.now)) (S.state store.old)
+    ensures { (pour : Poured) →
+        Follows result (job_walk (target_view target.now) (matrix_of whole.now))
+        (piece_names (target_view target.now)) (S.state store.old)
         (S.state store.new) pour pour }
-    ensures opens { OnOk result ((S.state store.new).opens ≡ opened (target.now.nprow * target.now.npcol)
-        (S.state store.old).opens) }
 {
     let words = count_words(target, whole.rows, whole.columns);
     if words > LIMIT {
@@ -200,18 +194,15 @@ fn split_whole<S: Store>(
 }
 
 /// Reads the matrix of the file `input`, spreads it over the grid, and writes the pieces.
-#[tactic(auto, using(crate::proofs::SplitLaws::split_goes_on, crate::proofs::SplitLaws::split_stops))]
 pub(crate) fn run_split<S: Store>(
     alloc: Global,
     store: &mut S,
     input: Name,
     target: &Target<'_>,
 ) -> Result<(), Trouble>
-    ensures follows { (pour : Poured) →
-        Follows result (split_walk input (target_view target.now)) (S.state store.old) (S.state store.new)
+    ensures { (pour : Poured) →
+        Follows result (split_walk input (target_view target.now)) (piece_names (target_view target.now)) (S.state store.old) (S.state store.new)
         pour pour }
-    ensures opens { OnOk result ((S.state store.new).opens ≡ opened (target.now.nprow * target.now.npcol)
-        (S.state store.old).opens) }
 {
     let whole = read_input(alloc, store, input)?;
     split_whole(alloc, store, target, &whole)

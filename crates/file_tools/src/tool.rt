@@ -4,8 +4,8 @@ ghost use Rattle.store_io.specs.Outside.{IsEither};
 ghost use Rattle.tool_words.specs.CommandWords.{asked};
 ghost use Rattle.spread_cells.specs.Spreading.{SpreadsByHome};
 ghost use Rattle.spread_cells.specs.JoiningBack.{JoinsBack};
-ghost use Rattle.file_tools.specs.ToolWalk.{built, saves_asked, walk_of};
-ghost use Rattle.file_tools.specs.Outcome.{IsOutcome, IsComplete, opened};
+ghost use Rattle.file_tools.specs.ToolWalk.{built, walk_of, saved_names};
+ghost use Rattle.file_tools.specs.Outcome.{IsOutcome, IsComplete};
 ghost use Rattle.file_tools.specs.ThereAndBack.{SplitsAndJoins};
 
 use crate::join::run_join;
@@ -27,7 +27,7 @@ fn file_named(word: Word) -> Name
 }
 
 // Reads the words, does their command, and tells of its trouble.
-#[tactic(auto, using(crate::proofs::ToolLaws::command_ends, crate::proofs::ToolLaws::usage_ends, crate::proofs::ToolLaws::no_other, crate::proofs::ToolLaws::never_usage, crate::proofs::ToolLaws::done_opens))]
+#[tactic(auto, using(crate::proofs::ToolLaws::command_ends, crate::proofs::ToolLaws::usage_ends, crate::proofs::ToolLaws::no_other, crate::proofs::ToolLaws::never_usage))]
 fn run_tool<S: Store, O: Sink, E: Sink>(
     alloc: Global,
     words: &[String],
@@ -35,10 +35,8 @@ fn run_tool<S: Store, O: Sink, E: Sink>(
     out: &mut O,
     err: &mut E,
 ) -> Status
-    ensures outcome { IsOutcome result (walk_of (map string_bytes words.now)) (S.state store.old) (S.state store.new)
-        (O.state out.old) (O.state out.new) (E.state err.old) (E.state err.new) }
-    ensures opens { result ≡ Status.Done → (S.state store.new).opens ≡
-        opened (saves_asked (asked built (map string_bytes words.now))) (S.state store.old).opens }
+    ensures outcome { IsOutcome result (walk_of (map string_bytes words.now)) (saved_names (map string_bytes words.now))
+        (S.state store.old) (S.state store.new) (O.state out.old) (O.state out.new) (E.state err.old) (E.state err.new) }
     ensures words { result ≡ Status.Words → asked built (map string_bytes words.now) ≡ None }
     ensures outside { asked built (map string_bytes words.now) ≡ None →
         IsEither (result ≡ Status.Words) (result ≡ Status.NoMemory) }
@@ -90,12 +88,10 @@ pub fn plain_tool<S: Store, O: Sink, E: Sink>(
     out: &mut O,
     err: &mut E,
 ) -> Status
-    ensures outcome { IsOutcome result (walk_of (map string_bytes words.now)) (S.state store.old) (S.state store.new)
-        (O.state out.old) (O.state out.new) (E.state err.old) (E.state err.new) }
+    ensures outcome { IsOutcome result (walk_of (map string_bytes words.now)) (saved_names (map string_bytes words.now))
+        (S.state store.old) (S.state store.new) (O.state out.old) (O.state out.new) (E.state err.old) (E.state err.new) }
     ensures complete { IsComplete result (walk_of (map string_bytes words.now)) (S.state store.old) (S.state store.new)
         (O.state out.old) (O.state out.new) }
-    ensures opens { result ≡ Status.Done → (S.state store.new).opens ≡
-        opened (saves_asked (asked built (map string_bytes words.now))) (S.state store.old).opens }
     ensures words { result ≡ Status.Words → asked built (map string_bytes words.now) ≡ None }
     ensures outside { asked built (map string_bytes words.now) ≡ None →
         IsEither (result ≡ Status.Words) (result ≡ Status.NoMemory) }

@@ -1,6 +1,6 @@
 //! What a move asks of the shapes, looked at before the call.
 
-ghost use Rattle.std.specs.Prelude.{◌≡◌, ◌<◌, ◌≤◌, ◌^◌, ℕ, Some, None, true, max, pos, [], IfOk, IfSome};
+ghost use Rattle.std.specs.Prelude.{◌≡◌, ◌<◌, ◌≤◌, ◌^◌, ℕ, Some, None, true, max, pos, IfOk, IfSome};
 ghost use Rattle.std.specs.List.{AllByRecursion};
 ghost use Rattle.index_tools.specs.Home.{local_columns};
 ghost use Rattle.proc_grid.specs.Grid.{Grid, IsGrid};
@@ -9,11 +9,10 @@ ghost use Rattle.descriptor.specs.Bounds.{part};
 ghost use Rattle.descriptor.specs.Good.{IsGood, layout_of, lld_of};
 ghost use Rattle.descriptor.specs.InfoOf.{info_of};
 ghost use Rattle.descriptor.specs.Entries.{move_entries, gemr2d_entries, trmr2d_entries};
-ghost use Rattle.msg_core.specs.Plans.{waiting_lens};
-ghost use Rattle.pack_words.specs.GridState.{rank_steps};
 ghost use Rattle.pack_words.specs.GridShapes.{IsSize, shape_of};
 ghost use Rattle.mr2d.specs.Homes.{rank_of, HasShape};
 ghost use Rattle.mr2d.specs.Calls.{spread_array};
+ghost use Rattle.move_tests.specs.MovePlans.{IsMovePlan};
 
 use descriptor::{Moved, MrArgs, MrErr, Spread, info_gemr2d, info_trmr2d};
 use index_tools::numroc;
@@ -185,15 +184,14 @@ fn is_size(size: &(u32, u32)) -> bool
 }
 
 /// A plan without operations.
-pub fn fresh_plan(alloc: Global, ranks: u32) -> Result<Plan<RankOp>, AllocError>
-    requires { (0 < ranks) × (ranks ≤ 64) }
-    ensures ranks { IfOk result (λ plan. plan.ranks ≡ ranks) }
-    ensures quiet { IfOk result (λ plan. (from to : ℕ) → waiting_lens rank_steps plan from to ≡ []) }
+pub fn fresh_plan(alloc: Global, shapes: &Shapes) -> Result<Plan<RankOp>, AllocError>
+    requires ranks { (0 < shapes.now.ranks) × (shapes.now.ranks ≤ 64) }
+    ensures { IfOk result (λ plan. IsMovePlan shapes.now plan) }
 {
-    Plan::new(alloc, ranks)
+    Plan::new(alloc, shapes.ranks())
 }
 
-/// The move, after messages that are all taken. None where the arguments pass and an array hasn't its shape.
+/// The move in a plan of moves. None where the arguments pass and an array hasn't its shape.
 pub fn moved(
     alloc: Global,
     plan: &mut Plan<RankOp>,
@@ -201,10 +199,10 @@ pub fn moved(
     contexts: &Contexts,
     args: &MrArgs,
 ) -> Option<Result<Moved, MrErr>>
-    requires ranks { shapes.now.ranks ≡ plan.old.ranks }
     requires a { args.now.a < shapes.now.count }
     requires b { args.now.b < shapes.now.count }
-    requires quiet { (from to : ℕ) → waiting_lens rank_steps plan.old from to ≡ [] }
+    requires plan { IsMovePlan shapes.now plan.old }
+    ensures plan { IsMovePlan shapes.now plan.new }
 {
     if !is_able(shapes, contexts, args) {
         return None;
@@ -221,10 +219,10 @@ pub fn part_moved(
     letters: (char, char),
     args: &MrArgs,
 ) -> Option<Result<Moved, MrErr>>
-    requires ranks { shapes.now.ranks ≡ plan.old.ranks }
     requires a { args.now.a < shapes.now.count }
     requires b { args.now.b < shapes.now.count }
-    requires quiet { (from to : ℕ) → waiting_lens rank_steps plan.old from to ≡ [] }
+    requires plan { IsMovePlan shapes.now plan.old }
+    ensures plan { IsMovePlan shapes.now plan.new }
 {
     if !is_part_able(shapes, contexts, letters, args) {
         return None;

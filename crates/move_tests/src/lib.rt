@@ -3,10 +3,14 @@
 
 pub mod able;
 pub mod compare;
+pub mod matrix;
 #[cfg(test)]
 mod meets;
+pub mod memories;
 #[cfg(test)]
 mod moves;
 #[cfg(test)]
 mod runs;
+pub mod trial;
 pub mod walk;
+pub mod words;

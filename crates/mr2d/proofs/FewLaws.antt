@@ -1,5 +1,5 @@
 -- A move has at most one message or copy for each meet.
-use Rattle.std.proofs.Common.{◌≡◌, ℕ, zero, suc, ◌+◌, ◌<◌, ◌≤◌, ◌==◌, ◌&&◌, not, nat_lt, Bool, true, false, cond, inl, inr, ◌⊎◌, Option, None, Some, List, [], ◌∷◌, length, map, slice_get, count_by, refl, sym, ap, ◌∙◌, subst, arith}
+use Rattle.std.proofs.Common.{◌≡◌, ℕ, zero, suc, ◌+◌, ◌<◌, ◌≤◌, ◌==◌, ◌&&◌, not, nat_lt, Bool, true, false, cond, inl, inr, ◌⊎◌, Option, None, Some, List, [], ◌∷◌, length, map, slice_get, count_by, refl, sym, ap, ◌∙◌, arith}
 use Rattle.std.specs.List.{sum_by, range_with_len, flat_map}
 use Rattle.std.proofs.lemmas.Bool.{cases_eq, cases_lt}
 use Rattle.std.proofs.lemmas.Bool.Decides.{nat_tests}

@@ -35,6 +35,7 @@ use Rattle.mr2d.proofs.ArgLaws.{is_move, row_axis_a, column_axis_a, row_axis_b, 
 use Rattle.mr2d.proofs.CallLaws.{can_append}
 use Rattle.mr2d.proofs.GrowLaws.{grown}
 use Rattle.mr2d.proofs.FewLaws.{few_moves}
+use Rattle.mr2d.proofs.UsedLaws.{uses_no_more, all_touching}
 use Rattle.mr2d.proofs.ShapeLaws.{have_arrays, blank_arrays, blank_shapes, blank_count, none_waits}
 
 -- the runs of a move's rows and columns, as they are dealt
@@ -116,11 +117,13 @@ module _ (shape : Shape) (args : MrArgs) (a b : Grid) (p : IsReady args a b) (ot
         targets = λ s of. are_targets mv before.ranks meets s moves (can_move v before is can s of) all;
         meets = meets;
         all = all;
+        touching = all_touching mv.cut a b rs.0 cs.0;
         added_are = refl;
         messages = d.messages rs.0 cs.0 rs.1 cs.1;
         copies = d.copies rs.0 cs.0 rs.1 cs.1;
         few = few_moved before.ranks rs.0 cs.0 rs.1 cs.1 moved (d.messages rs.0 cs.0 rs.1 cs.1) (d.copies rs.0 cs.0 rs.1 cs.1) (number rs.0 cs.0 rs.1 cs.1);
         grows = grown mv before.ranks meets before after moved.messages moved.copies (d.steps rs.0 cs.0 rs.1 cs.1) (d.messages rs.0 cs.0 rs.1 cs.1) (d.copies rs.0 cs.0 rs.1 cs.1);
+        scratch = λ r. uses_no_more r mv.a.array mv.b.array mv.cut meets (pairs before.ranks) before.steps after.steps (d.steps rs.0 cs.0 rs.1 cs.1);
         number = number;
       }
 

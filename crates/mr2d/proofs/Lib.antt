@@ -12,6 +12,9 @@ pub mod TargetLaws
 pub mod BetweenLaws
 pub mod MadeLaws
 pub mod ListLaws
+pub mod RegionLaws
+pub mod CommonLaws
+pub mod UsedLaws
 pub mod AppendLaws
 pub mod ArgLaws
 pub mod CallLaws

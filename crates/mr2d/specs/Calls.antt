@@ -1,5 +1,6 @@
 -- What the calls say: the move that arguments stand for, what is asked of a plan, and what is appended to it.
-use Rattle.std.specs.Prelude.{◌≡◌, ℕ, ◌+◌, ◌-◌, ◌*◌, ◌^◌, ◌<◌, ◌≤◌, ◌==◌, ◌||◌, if◌then◌else◌, pos, List, [], length, count_by, Some}
+use Rattle.std.specs.Prelude.{◌≡◌, ℕ, ◌+◌, ◌-◌, ◌*◌, ◌^◌, ◌<◌, ◌≤◌, ◌==◌, ◌||◌, if◌then◌else◌, pos, IsTrue, List, [], length, count_by, Some}
+use Rattle.std.specs.List.{AllByRecursion}
 use Rattle.msg_core.specs.Plans.{PlanView, Lens, waiting_lens}
 use Rattle.proc_grid.specs.Grid.{Grid, IsGrid}
 use Rattle.proc_grid.specs.Held.{context_at}
@@ -13,7 +14,7 @@ use Rattle.pack_words.specs.declared.shape.Shape.TheVariants.{Tr}
 use Rattle.pack_words.specs.declared.uplo.Uplo.TheVariants.{Upper, Lower}
 use Rattle.pack_words.specs.declared.diag.Diag.TheVariants.{N, U}
 use Rattle.pack_words.specs.declared.rank_op.RankOp.{RankOp}
-use Rattle.pack_words.specs.GridState.{GridState, rank_steps}
+use Rattle.pack_words.specs.GridState.{GridState, rank_steps, scratch_needed}
 use Rattle.pack_words.specs.GridShapes.{ShapesView}
 use Rattle.pack_words.specs.GridPlans.{IsOf, Appends, Grows}
 use Rattle.block_meet.specs.declared.axis.Run.{Run}
@@ -84,6 +85,7 @@ pub record IsAppended (v : ShapesView) (mv : Move) (before after : PlanView Rank
   -- they are one message for each ordered pair of different ranks with a meet, and one copy for each rank with a meet to itself
   pub meets : Rectangles
   pub all : AreAllMeets mv before.ranks meets
+  pub touching : (from to : ℕ) → AllByRecursion (λ t. IsTrue (touches mv.cut t)) (meets from to)
   pub added_are : appends.added ≡ operations mv meets before.ranks
   pub messages : moved.messages ≡ count_by (λ p. sends meets p.0 p.1) (pairs before.ranks)
   pub copies : moved.copies ≡ count_by (λ p. stays meets p.0 p.1) (pairs before.ranks)
@@ -91,6 +93,8 @@ pub record IsAppended (v : ShapesView) (mv : Move) (before after : PlanView Rank
   pub few : moved.messages + moved.copies ≤ moved.meets
   -- so many operations, messages and words more
   pub grows : Grows before after (2 * moved.messages + moved.copies) moved.messages (words_sent mv meets (pairs before.ranks))
+  -- which use no accumulator
+  pub scratch : (rank : ℕ) → scratch_needed rank after.steps ≡ scratch_needed rank before.steps
   -- and the number of all meets
   pub number : (rs cs : List Run) → AreRowRuns mv rs → AreColumnRuns mv cs → moved.meets ≡ count_by (touches mv.cut) (rectangles rs cs)
 

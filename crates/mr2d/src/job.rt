@@ -1,14 +1,15 @@
-//! A move whose arguments were checked, and the rectangles of its pairs of ranks.
+//! A move whose arguments were checked, and the runs that its pairs of ranks have together.
 
-ghost use Rattle.std.specs.Prelude.{◌≡◌, ◌<◌, ◌≤◌, ◌^◌, IfOk, IfSome, List, map};
+ghost use Rattle.std.specs.Prelude.{◌≡◌, ◌<◌, IfOk, IfSome, List, [], filter};
 ghost use Rattle.proc_grid.specs.Grid.{place_of};
 ghost use Rattle.block_meet.specs.declared.axis.Run.{Run};
-ghost use Rattle.mr2d.specs.Pairs.{part_of_a, part_of_b, parts_of_a, parts_of_b};
+ghost use Rattle.block_meet.specs.Meets.{rectangles, touches};
 ghost use Rattle.mr2d.specs.Between.{meets_by};
-ghost use Rattle.mr2d.specs.Jobs.{IsJob, AreRunsOf};
+ghost use Rattle.mr2d.specs.Jobs.{IsJob, AreRunsOf, AreCommonRuns};
 
-use block_meet::{Meet, PairRuns, meets_of};
-use pack_words::{Cut, Region, Regions};
+use crate::parts::CommonRuns;
+use block_meet::PairRuns;
+use pack_words::Cut;
 use proc_grid::Context;
 use std::alloc::{AllocError, Global};
 
@@ -40,75 +41,40 @@ fn place(ctx: &Context, rank: u32) -> Option<(u32, u32)>
     Some((row as u32, column as u32))
 }
 
-/// The rectangles that lie on rank `from` in A and on rank `to` in B.
-pub(crate) fn meets_at(
+// No run at all.
+fn no_runs(alloc: Global) -> CommonRuns
+    ensures rows { result.rows.items ≡ [] }
+    ensures columns { result.columns.items ≡ [] }
+{
+    CommonRuns {
+        rows: Vec::new(alloc),
+        columns: Vec::new(alloc),
+    }
+}
+
+/// The runs that lie on rank `from` in A and on rank `to` in B.
+pub(crate) fn runs_at(
     alloc: Global,
     job: &Job,
     from: u32,
     to: u32,
-) -> Result<Vec<Meet>, AllocError>
+) -> Result<CommonRuns, AllocError>
     requires from { from < 64 }
     requires to { to < 64 }
-    ensures { IfOk result (λ ms. (rs cs : List Run) → AreRunsOf job.now.rows rs → AreRunsOf job.now.columns cs →
-        ms.items ≡ meets_by job.now.cut job.now.source.now job.now.target.now rs cs from to) }
+    ensures meets { IfOk result (λ runs. (rs cs : List Run) → AreRunsOf job.now.rows rs →
+        AreRunsOf job.now.columns cs →
+        filter (touches job.now.cut) (rectangles runs.rows.items runs.columns.items) ≡
+        meets_by job.now.cut job.now.source.now job.now.target.now rs cs from to) }
+    ensures common { IfOk result (λ runs. AreCommonRuns job.now.cut runs.rows.items runs.columns.items) }
 {
     let Some((p, q)) = place(job.source, from) else {
-        return Ok(Vec::new(alloc));
+        return Ok(no_runs(alloc));
     };
     let Some((r, s)) = place(job.target, to) else {
-        return Ok(Vec::new(alloc));
+        return Ok(no_runs(alloc));
     };
-    let rows = job.rows.of(alloc, p, r)?;
-    let columns = job.columns.of(alloc, q, s)?;
-    meets_of(alloc, &job.cut, &rows, &columns)
-}
-
-// A rectangle in the array of A.
-fn part_a(meet: &Meet) -> Region
-    ensures { result ≡ part_of_a meet.now }
-{
-    Region {
-        li: meet.ai,
-        lj: meet.aj,
-        rows: meet.rows,
-        cols: meet.cols,
-        i0: meet.i0,
-        j0: meet.j0,
-    }
-}
-
-// A rectangle in the array of B.
-fn part_b(meet: &Meet) -> Region
-    ensures { result ≡ part_of_b meet.now }
-{
-    Region {
-        li: meet.bi,
-        lj: meet.bj,
-        rows: meet.rows,
-        cols: meet.cols,
-        i0: meet.i0,
-        j0: meet.j0,
-    }
-}
-
-/// Where the rectangles lie in A's array.
-pub(crate) fn parts_a(alloc: Global, meets: &[Meet]) -> Result<Regions, AllocError>
-    ensures { IfOk result (λ regions. regions ≡ parts_of_a meets.now) }
-{
-    let mut list = Vec::with_capacity(alloc, meets.len())?;
-    for meet in meets {
-        list.push(part_a(meet))?;
-    }
-    Ok(Regions::new(list))
-}
-
-/// Where they lie in B's.
-pub(crate) fn parts_b(alloc: Global, meets: &[Meet]) -> Result<Regions, AllocError>
-    ensures { IfOk result (λ regions. regions ≡ parts_of_b meets.now) }
-{
-    let mut list = Vec::with_capacity(alloc, meets.len())?;
-    for meet in meets {
-        list.push(part_b(meet))?;
-    }
-    Ok(Regions::new(list))
+    Ok(CommonRuns {
+        rows: job.rows.of(alloc, p, r)?,
+        columns: job.columns.of(alloc, q, s)?,
+    })
 }

@@ -30,9 +30,11 @@ use Rattle.scope_ops.specs.Refusals.{IsAnswer, many_fault, part_count}
 use Rattle.scope_ops.specs.Ops.{regions_of, Fits}
 use Rattle.scope_ops.specs.Broadcasts.{part_sent, edge_ops, AllFit, IsQuiet, IsRouted}
 use Rattle.scope_ops.specs.Scopes.{IsListed, all_below, member_fits, broadcast_fault}
+use Rattle.scope_ops.specs.Calls.{IsBroadcastMade, IsBroadcastAlong}
 use Rattle.scope_ops.proofs.Below.{below_all}
 use Rattle.scope_ops.proofs.Along.{broadcast_means}
 use Rattle.scope_ops.proofs.Quiet.{ops_long}
+use Rattle.scope_ops.proofs.Within.{grown_within, edges_within}
 
 all_at : (ss : List (ℕ × ℕ)) (k : ℕ) → AllByRecursion IsSize ss → k < length ss → IsSize (slice_index_or ss k (1, 0))
 all_at [] k all lt = absurd (omega arith)
@@ -71,7 +73,7 @@ pub other_fits : (v : ShapesView) (ranks : List ℕ) (k : ℕ) (part : Part) (rc
 other_fits v ranks zero part rcv fit two there = (1, fit.others_fit 1 two (λ e. cc))
 other_fits v ranks (suc k) part rcv fit two there = (0, fit.others_fit 0 (omega arith) (λ e. cc))
 
-pub broadcast_appends : (g : Grid) (v : ShapesView) (p q : PlanView RankOp) (top : Top) (scope : Scope) (src : ℕ × ℕ) (ranks : List ℕ) (k : ℕ) (shape : Shape) (part : Part) (rcv : Spot) → IsListed g v scope src ranks k → AllFit v ranks k part rcv → IsQuiet p (members g scope) → IsRouted p q top ranks k shape part rcv → q.ranks ≡ p.ranks
+broadcast_appends : (g : Grid) (v : ShapesView) (p q : PlanView RankOp) (top : Top) (scope : Scope) (src : ℕ × ℕ) (ranks : List ℕ) (k : ℕ) (shape : Shape) (part : Part) (rcv : Spot) → IsListed g v scope src ranks k → AllFit v ranks k part rcv → IsQuiet p (members g scope) → IsRouted p q top ranks k shape part rcv → q.ranks ≡ p.ranks
     → Appends v p q (broadcast_line (members g scope) (rank_of g src) shape part (part_from rcv part))
 broadcast_appends g v p q top scope src ranks k shape part rcv is fit quiet routed same =
     let calm : IsQuiet p ranks = subst (λ (rs : List ℕ). IsQuiet p rs) (sym is.ranks_are) quiet in
@@ -115,7 +117,7 @@ words_in members source shape part rcv (e ∷ es) =
     next : (c d n w : ℕ) → d ≡ c → w ≡ n * c → 0 + d + 0 + w ≡ suc n * c
     next c d n w e h = let x : suc n * c ≡ n * c + c = grind arith in omega arith
 
-pub broadcast_grows : (g : Grid) (v : ShapesView) (p q : PlanView RankOp) (top : Top) (scope : Scope) (src : ℕ × ℕ) (ranks : List ℕ) (k : ℕ) (shape : Shape) (part : Part) (rcv : Spot) → IsListed g v scope src ranks k → IsRouted p q top ranks k shape part rcv
+broadcast_grows : (g : Grid) (v : ShapesView) (p q : PlanView RankOp) (top : Top) (scope : Scope) (src : ℕ × ℕ) (ranks : List ℕ) (k : ℕ) (shape : Shape) (part : Part) (rcv : Spot) → IsListed g v scope src ranks k → IsRouted p q top ranks k shape part rcv
     → Grows p q (2 * (length (members g scope) - 1)) (length (members g scope) - 1) ((length (members g scope) - 1) * part_count shape part)
 broadcast_grows g v p q top scope src ranks k shape part rcv is routed =
     let ops : List (ℕ × RankOp) = edge_ops ranks k shape part rcv (edges_of top (length ranks) k) in
@@ -126,26 +128,35 @@ broadcast_grows g v p q top scope src ranks k shape part rcv is routed =
       words_are = ap (word_count rank_steps) routed.steps_are ∙ (sum_by-append (λ (x : ℕ × RankOp). sent_words (rank_kind x.1)) p.steps ops ∙ ap (λ m. word_count rank_steps p.steps + m) (words_in ranks k shape part rcv (edges_of top (length ranks) k) ∙ ap (λ m. m * part_count shape part) n));
     }
 
+-- all that a broadcast promises
+pub broadcast_made : (g : Grid) (v : ShapesView) (p q : PlanView RankOp) (top : Top) (scope : Scope) (src : ℕ × ℕ) (ranks : List ℕ) (k : ℕ) (shape : Shape) (part : Part) (rcv : Spot) → IsListed g v scope src ranks k → AllFit v ranks k part rcv → IsQuiet p (members g scope) → IsRouted p q top ranks k shape part rcv → q.ranks ≡ p.ranks
+    → IsBroadcastMade v p q g scope shape part src rcv
+broadcast_made g v p q top scope src ranks k shape part rcv is fit quiet routed same = record {
+  appends = broadcast_appends g v p q top scope src ranks k shape part rcv is fit quiet routed same;
+  grows = broadcast_grows g v p q top scope src ranks k shape part rcv is routed;
+  scratch = grown_within v p.steps (edge_ops ranks k shape part rcv (edges_of top (length ranks) k)) q.steps routed.steps_are (edges_within v ranks k shape part rcv (edges_of top (length ranks) k));
+}
+
 -- why the call is refused
 listed_fault : (g : Grid) (v : ShapesView) (p : PlanView RankOp) (scope : Scope) (src : ℕ × ℕ) (ranks : List ℕ) (k : ℕ) (part : Part) (rcv : Spot) → IsListed g v scope src ranks k
-    → broadcast_fault p v g scope part src rcv ≡ cond (not (all_below (member_fits v ranks k part rcv) (length ranks))) (Some OutOfArray) (many_fault p (2 * (length ranks - 1)))
+    → broadcast_fault (length p.steps) v g scope part src rcv ≡ cond (not (all_below (member_fits v ranks k part rcv) (length ranks))) (Some OutOfArray) (many_fault (length p.steps) (2 * (length ranks - 1)))
 listed_fault g v p scope src ranks k part rcv is =
-    ap (λ (o : Option ℕ). cond (is_none o) (Some NotInGrid) (cond (not (all_below (member_fits v (members g scope) (or_zero o) part rcv) (length (members g scope)))) (Some OutOfArray) (many_fault p (2 * (length (members g scope) - 1))))) is.position
-    ∙ ap (λ rs. cond (not (all_below (member_fits v rs k part rcv) (length rs))) (Some OutOfArray) (many_fault p (2 * (length rs - 1)))) (sym is.ranks_are)
+    ap (λ (o : Option ℕ). cond (is_none o) (Some NotInGrid) (cond (not (all_below (member_fits v (members g scope) (or_zero o) part rcv) (length (members g scope)))) (Some OutOfArray) (many_fault (length p.steps) (2 * (length (members g scope) - 1))))) is.position
+    ∙ ap (λ rs. cond (not (all_below (member_fits v rs k part rcv) (length rs))) (Some OutOfArray) (many_fault (length p.steps) (2 * (length rs - 1)))) (sym is.ranks_are)
 
-pub fault_in_array : (g : Grid) (v : ShapesView) (p : PlanView RankOp) (scope : Scope) (src : ℕ × ℕ) (ranks : List ℕ) (k : ℕ) (part : Part) (rcv : Spot) → IsListed g v scope src ranks k → all_below (member_fits v ranks k part rcv) (length ranks) ≡ false → broadcast_fault p v g scope part src rcv ≡ Some OutOfArray
-fault_in_array g v p scope src ranks k part rcv is h = listed_fault g v p scope src ranks k part rcv is ∙ ap (λ b. cond (not b) (Some OutOfArray) (many_fault p (2 * (length ranks - 1)))) h
+pub fault_in_array : (g : Grid) (v : ShapesView) (p : PlanView RankOp) (scope : Scope) (src : ℕ × ℕ) (ranks : List ℕ) (k : ℕ) (part : Part) (rcv : Spot) → IsListed g v scope src ranks k → all_below (member_fits v ranks k part rcv) (length ranks) ≡ false → broadcast_fault (length p.steps) v g scope part src rcv ≡ Some OutOfArray
+fault_in_array g v p scope src ranks k part rcv is h = listed_fault g v p scope src ranks k part rcv is ∙ ap (λ b. cond (not b) (Some OutOfArray) (many_fault (length p.steps) (2 * (length ranks - 1)))) h
 
-pub fault_later : (g : Grid) (v : ShapesView) (p : PlanView RankOp) (scope : Scope) (src : ℕ × ℕ) (ranks : List ℕ) (k : ℕ) (part : Part) (rcv : Spot) → IsListed g v scope src ranks k → all_below (member_fits v ranks k part rcv) (length ranks) ≡ true → broadcast_fault p v g scope part src rcv ≡ many_fault p (2 * (length ranks - 1))
-fault_later g v p scope src ranks k part rcv is h = listed_fault g v p scope src ranks k part rcv is ∙ ap (λ b. cond (not b) (Some OutOfArray) (many_fault p (2 * (length ranks - 1)))) h
+pub fault_later : (g : Grid) (v : ShapesView) (p : PlanView RankOp) (scope : Scope) (src : ℕ × ℕ) (ranks : List ℕ) (k : ℕ) (part : Part) (rcv : Spot) → IsListed g v scope src ranks k → all_below (member_fits v ranks k part rcv) (length ranks) ≡ true → broadcast_fault (length p.steps) v g scope part src rcv ≡ many_fault (length p.steps) (2 * (length ranks - 1))
+fault_later g v p scope src ranks k part rcv is h = listed_fault g v p scope src ranks k part rcv is ∙ ap (λ b. cond (not b) (Some OutOfArray) (many_fault (length p.steps) (2 * (length ranks - 1)))) h
 
-pub not_listed : (g : Grid) (v : ShapesView) (p : PlanView RankOp) (scope : Scope) (src : ℕ × ℕ) (part : Part) (rcv : Spot) (e : ScopeErr) → (e ≡ NoMemory) ⊎ ((e ≡ NotInGrid) × (position_in g scope src ≡ None)) → IsAnswer (Err e) (broadcast_fault p v g scope part src rcv)
-not_listed g v p scope src part rcv e (inl h) = no_memory (broadcast_fault p v g scope part src rcv) where
+pub not_listed : (g : Grid) (v : ShapesView) (p : PlanView RankOp) (scope : Scope) (src : ℕ × ℕ) (part : Part) (rcv : Spot) (e : ScopeErr) → (e ≡ NoMemory) ⊎ ((e ≡ NotInGrid) × (position_in g scope src ≡ None)) → IsAnswer (Err e) (broadcast_fault (length p.steps) v g scope part src rcv)
+not_listed g v p scope src part rcv e (inl h) = no_memory (broadcast_fault (length p.steps) v g scope part src rcv) where
   no_memory : (o : Option ScopeErr) → IsAnswer (Err e) o
   no_memory None = h
   no_memory (Some f) = inr (ap (λ x. Err x) h)
 not_listed g v p scope src part rcv e (inr h) =
-    subst (λ (o : Option ℕ). IsAnswer (Err e) (cond (is_none o) (Some NotInGrid) (cond (not (all_below (member_fits v (members g scope) (or_zero o) part rcv) (length (members g scope)))) (Some OutOfArray) (many_fault p (2 * (length (members g scope) - 1)))))) (sym h.1)
+    subst (λ (o : Option ℕ). IsAnswer (Err e) (cond (is_none o) (Some NotInGrid) (cond (not (all_below (member_fits v (members g scope) (or_zero o) part rcv) (length (members g scope)))) (Some OutOfArray) (many_fault (length p.steps) (2 * (length (members g scope) - 1)))))) (sym h.1)
     (inl (ap (λ x. Err x) h.0))
 
 pub on_ok : {T E A B : Type 0} (r : Result T E) → (A → B) → OnOk r A → OnOk r B
@@ -154,7 +165,7 @@ on_ok (Err e) f h = tt
 
 -- the appended operations themselves
 pub routed_along : (g : Grid) (v : ShapesView) (p q : PlanView RankOp) (top : Top) (scope : Scope) (src : ℕ × ℕ) (ranks : List ℕ) (k : ℕ) (shape : Shape) (part : Part) (rcv : Spot) → IsListed g v scope src ranks k → IsRouted p q top ranks k shape part rcv
-    → q.steps ≡ p.steps ++ edge_ops (members g scope) (or_zero (position_in g scope src)) shape part rcv (edges_of top (length (members g scope)) (or_zero (position_in g scope src)))
+    → IsBroadcastAlong p q g scope top shape part src rcv
 routed_along g v p q top scope src ranks k shape part rcv is routed =
     routed.steps_are
     ∙ (ap (λ rs. p.steps ++ edge_ops rs k shape part rcv (edges_of top (length rs) k)) is.ranks_are

@@ -40,10 +40,12 @@ use Rattle.scope_ops.specs.Combines.{or_corner, combine_line}
 use Rattle.scope_ops.specs.CombineOps.{element_count, relay_words, own_op, coords_of, gathered_ops, barrier_ops, AllFitPart, RcFit, AreAskable, IsGathered, IsPulsed, IsAlong}
 use Rattle.scope_ops.specs.CombineRefusals.{root_place, combine_messages, arrays_fault, combine_fault, barrier_fault}
 use Rattle.scope_ops.specs.CombineRefusals as refusals
+use Rattle.scope_ops.specs.Calls.{IsMade, IsCombineMade}
 use Rattle.scope_ops.proofs.Relays.{sent_kind, received_kind}
 use Rattle.scope_ops.proofs.Owns.{own_kind}
 use Rattle.scope_ops.proofs.CombineMeans.{KnowsPlaces, one_means, all_mean}
 use Rattle.scope_ops.proofs.BarrierMeans.{barrier_means}
+use Rattle.scope_ops.proofs.Within.{grown_within, gathered_within, pulses_within}
 
 -- ---- members and places
 
@@ -83,7 +85,7 @@ knows g scope w is = record {
 abbrev gather_of : Grid → Scope → FoldKind → Part → Option (ℕ × ℕ) → Gather
 gather_of g scope fold part rc = record { fold = fold; part = part; coords = coords_of scope g.npcol rc }
 
-pub combine_appends : (g : Grid) (v : ShapesView) (p q : PlanView RankOp) (top : Top) (scope : Scope) (dest : Option (ℕ × ℕ)) (fold : FoldKind) (part : Part) (rc : Option (ℕ × ℕ)) (ranks : List ℕ) (k : ℕ)
+combine_appends : (g : Grid) (v : ShapesView) (p q : PlanView RankOp) (top : Top) (scope : Scope) (dest : Option (ℕ × ℕ)) (fold : FoldKind) (part : Part) (rc : Option (ℕ × ℕ)) (ranks : List ℕ) (k : ℕ)
     → IsListed g v scope (root_place scope dest) ranks k → AllFitPart v ranks part → RcFit v ranks part rc → AreAskable fold rc → IsQuiet p (members g scope) → IsGathered p q top ranks k (gather_of g scope fold part rc) dest → q.ranks ≡ p.ranks
     → Appends v p q (combine_line g scope dest fold part rc)
 combine_appends g v p q top scope (Some place) fold part rc ranks k is fits rc_fits ask quiet gathered same =
@@ -155,7 +157,7 @@ gathered_words ranks root edges gather None route =
     (λ e. ap sent_words (sent_kind (relay.Spread (element_count gather.part) gather.fold) (rank_in ranks e.1)) ∙ spread_long gather.fold (element_count gather.part)) (λ e. ap sent_words (received_kind (relay.Spread (element_count gather.part) gather.fold) (rank_in ranks e.0)))
     (λ p. ap sent_words (own_kind (own.Store gather.coords) gather.part p))
 
-pub combine_grows : (g : Grid) (v : ShapesView) (p q : PlanView RankOp) (top : Top) (scope : Scope) (place : ℕ × ℕ) (dest : Option (ℕ × ℕ)) (gather : Gather) (ranks : List ℕ) (k : ℕ) → IsListed g v scope place ranks k → IsGathered p q top ranks k gather dest
+combine_grows : (g : Grid) (v : ShapesView) (p q : PlanView RankOp) (top : Top) (scope : Scope) (place : ℕ × ℕ) (dest : Option (ℕ × ℕ)) (gather : Gather) (ranks : List ℕ) (k : ℕ) → IsListed g v scope place ranks k → IsGathered p q top ranks k gather dest
     → Grows p q (refusals.combine_count (length (members g scope)) dest) (combine_messages (length (members g scope)) dest) (combine_messages (length (members g scope)) dest * message_words (has_places gather.fold) (element_count gather.part))
 combine_grows g v p q top scope place dest gather ranks k is gathered =
     let edges : List (ℕ × ℕ) = edges_of top (length ranks) k in
@@ -168,9 +170,20 @@ combine_grows g v p q top scope place dest gather ranks k is gathered =
       words_are = ap (word_count rank_steps) gathered.steps_are ∙ words_join rank_steps p.steps ops ∙ ap (λ m. word_count rank_steps p.steps + m) (gathered_words ranks k edges gather dest gathered.route ∙ ap (λ n. combine_messages n dest * message_words (has_places gather.fold) (element_count gather.part)) same);
     }
 
+-- all that a combine promises
+pub combine_made : (g : Grid) (v : ShapesView) (p q : PlanView RankOp) (top : Top) (scope : Scope) (dest : Option (ℕ × ℕ)) (fold : FoldKind) (part : Part) (rc : Option (ℕ × ℕ)) (ranks : List ℕ) (k : ℕ)
+    → IsListed g v scope (root_place scope dest) ranks k → AllFitPart v ranks part → RcFit v ranks part rc → AreAskable fold rc → IsQuiet p (members g scope) → IsGathered p q top ranks k (gather_of g scope fold part rc) dest → q.ranks ≡ p.ranks
+    → IsCombineMade v p q g scope fold part rc dest
+combine_made g v p q top scope dest fold part rc ranks k is fits rc_fits ask quiet gathered same = record {
+  appends = combine_appends g v p q top scope dest fold part rc ranks k is fits rc_fits ask quiet gathered same;
+  grows = combine_grows g v p q top scope (root_place scope dest) dest (gather_of g scope fold part rc) ranks k is gathered;
+  scratch = grown_within v p.steps (gathered_ops ranks k (edges_of top (length ranks) k) (gather_of g scope fold part rc) dest) q.steps gathered.steps_are
+      (gathered_within v ranks k (edges_of top (length ranks) k) (gather_of g scope fold part rc) dest gathered.route is.within fits);
+}
+
 -- ---- a barrier
 
-pub barrier_appends : (g : Grid) (v : ShapesView) (p q : PlanView RankOp) (scope : Scope) (place : ℕ × ℕ) (ranks : List ℕ) (k : ℕ) → IsListed g v scope place ranks k → IsQuiet p (members g scope) → IsPulsed p q ranks → q.ranks ≡ p.ranks → Appends v p q (λ s. s)
+barrier_appends : (g : Grid) (v : ShapesView) (p q : PlanView RankOp) (scope : Scope) (place : ℕ × ℕ) (ranks : List ℕ) (k : ℕ) → IsListed g v scope place ranks k → IsQuiet p (members g scope) → IsPulsed p q ranks → q.ranks ≡ p.ranks → Appends v p q (λ s. s)
 barrier_appends g v p q scope place ranks k is quiet pulsed same = record {
   added = barrier_ops ranks (edges_of H (length ranks) 0);
   ranks_are = same;
@@ -178,7 +191,7 @@ barrier_appends g v p q scope place ranks k is quiet pulsed same = record {
   means = barrier_means v p ranks 0 (edges_of H (length ranks) 0) is.members_are pulsed.route (subst (λ (rs : List ℕ). IsQuiet p rs) (sym is.ranks_are) quiet);
 }
 
-pub barrier_grows : (g : Grid) (v : ShapesView) (p q : PlanView RankOp) (scope : Scope) (place : ℕ × ℕ) (ranks : List ℕ) (k : ℕ) → IsListed g v scope place ranks k → IsPulsed p q ranks
+barrier_grows : (g : Grid) (v : ShapesView) (p q : PlanView RankOp) (scope : Scope) (place : ℕ × ℕ) (ranks : List ℕ) (k : ℕ) → IsListed g v scope place ranks k → IsPulsed p q ranks
     → Grows p q (4 * (length (members g scope) - 1)) (2 * (length (members g scope) - 1)) 0
 barrier_grows g v p q scope place ranks k is pulsed =
     let edges : List (ℕ × ℕ) = edges_of H (length ranks) 0 in
@@ -192,6 +205,15 @@ barrier_grows g v p q scope place ranks k is pulsed =
       words_are = ap (word_count rank_steps) pulsed.steps_are ∙ words_join rank_steps p.steps ops ∙ ap (λ m. word_count rank_steps p.steps + m) (words ∙ omega arith);
     }
 
+-- all that a barrier promises
+pub barrier_made : (g : Grid) (v : ShapesView) (p q : PlanView RankOp) (scope : Scope) (place : ℕ × ℕ) (ranks : List ℕ) (k : ℕ) → IsListed g v scope place ranks k → IsQuiet p (members g scope) → IsPulsed p q ranks → q.ranks ≡ p.ranks
+    → IsMade v p q (λ s. s) (4 * (length (members g scope) - 1)) (2 * (length (members g scope) - 1)) 0
+barrier_made g v p q scope place ranks k is quiet pulsed same = record {
+  appends = barrier_appends g v p q scope place ranks k is quiet pulsed same;
+  grows = barrier_grows g v p q scope place ranks k is pulsed;
+  scratch = grown_within v p.steps (barrier_ops ranks (edges_of H (length ranks) 0)) q.steps pulsed.steps_are (pulses_within v ranks 0 (edges_of H (length ranks) 0) pulsed.route);
+}
+
 pub barrier_along : (g : Grid) (v : ShapesView) (p q : PlanView RankOp) (scope : Scope) (place : ℕ × ℕ) (ranks : List ℕ) (k : ℕ) → IsListed g v scope place ranks k → IsPulsed p q ranks
     → q.steps ≡ p.steps ++ barrier_ops (members g scope) (edges_of H (length (members g scope)) 0)
 barrier_along g v p q scope place ranks k is pulsed = pulsed.steps_are ∙ ap (λ rs. p.steps ++ barrier_ops rs (edges_of H (length rs) 0)) is.ranks_are
@@ -200,15 +222,15 @@ barrier_along g v p q scope place ranks k is pulsed = pulsed.steps_are ∙ ap (�
 
 -- the members are there: the arrays decide, and then the number of operations
 pub combine_later : (g : Grid) (v : ShapesView) (p : PlanView RankOp) (scope : Scope) (dest : Option (ℕ × ℕ)) (part : Part) (rc : Option (ℕ × ℕ)) (ranks : List ℕ) (k : ℕ) → IsListed g v scope (root_place scope dest) ranks k
-    → combine_fault p v g scope dest part rc ≡ option_or (arrays_fault v ranks part rc) (many_fault p (refusals.combine_count (length ranks) dest))
+    → combine_fault (length p.steps) v g scope dest part rc ≡ option_or (arrays_fault v ranks part rc) (many_fault (length p.steps) (refusals.combine_count (length ranks) dest))
 combine_later g v p scope dest part rc ranks k is =
-    ap (λ (o : Option ℕ). cond (is_none o) (Some NotInGrid) (option_or (arrays_fault v (members g scope) part rc) (many_fault p (refusals.combine_count (length (members g scope)) dest)))) is.position
-    ∙ ap (λ rs. option_or (arrays_fault v rs part rc) (many_fault p (refusals.combine_count (length rs) dest))) (sym is.ranks_are)
+    ap (λ (o : Option ℕ). cond (is_none o) (Some NotInGrid) (option_or (arrays_fault v (members g scope) part rc) (many_fault (length p.steps) (refusals.combine_count (length (members g scope)) dest)))) is.position
+    ∙ ap (λ rs. option_or (arrays_fault v rs part rc) (many_fault (length p.steps) (refusals.combine_count (length rs) dest))) (sym is.ranks_are)
 
-pub barrier_later : (g : Grid) (v : ShapesView) (p : PlanView RankOp) (scope : Scope) (ranks : List ℕ) (k : ℕ) → IsListed g v scope (root_place scope None) ranks k → barrier_fault p g scope ≡ many_fault p (4 * (length ranks - 1))
+pub barrier_later : (g : Grid) (v : ShapesView) (p : PlanView RankOp) (scope : Scope) (ranks : List ℕ) (k : ℕ) → IsListed g v scope (root_place scope None) ranks k → barrier_fault (length p.steps) g scope ≡ many_fault (length p.steps) (4 * (length ranks - 1))
 barrier_later g v p scope ranks k is =
-    ap (λ (o : Option ℕ). cond (is_none o) (Some NotInGrid) (many_fault p (4 * (length (members g scope) - 1)))) is.position
-    ∙ ap (λ rs. many_fault p (4 * (length rs - 1))) (sym is.ranks_are)
+    ap (λ (o : Option ℕ). cond (is_none o) (Some NotInGrid) (many_fault (length p.steps) (4 * (length (members g scope) - 1)))) is.position
+    ∙ ap (λ rs. many_fault (length p.steps) (4 * (length rs - 1))) (sym is.ranks_are)
 
 no_memory : (e : ScopeErr) (o : Option ScopeErr) → e ≡ NoMemory → IsAnswer (Err e) o
 no_memory e None h = h

@@ -11,6 +11,7 @@ mod Points
 mod Quiet
 mod Ranks
 mod Scoped
+mod Within
 pub mod BarrierMeans
 pub mod CombineAble
 pub mod CombineMeans

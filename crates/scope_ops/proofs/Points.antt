@@ -4,7 +4,7 @@ use Rattle.std.proofs.Common.{sym, ap, ◌∙◌, refl, subst, inl, inr, arith, 
 use Rattle.std.proofs.lemmas.Bool.Decides.{nat_tests, eqb_tells}
 use Rattle.std.proofs.lemmas.List.Sums.{sum_by_push}
 use Rattle.msg_core.specs.Kinds.{Kind}
-use Rattle.msg_core.specs.Kinds.{Send}
+use Rattle.msg_core.specs.Kinds.{Send, Recv}
 use Rattle.msg_core.specs.declared.fault.PlanErr.{PlanErr}
 use Rattle.msg_core.specs.declared.fault.PlanErr.TheVariants as plan_err
 use Rattle.msg_core.specs.InOrder.{at_pair, HasLength}
@@ -30,7 +30,9 @@ use Rattle.scope_ops.specs.Parts.{cut_of}
 use Rattle.scope_ops.specs.Lines.{sent_line, received_line}
 use Rattle.scope_ops.specs.Refusals.{many_fault, IsAnswer, as_scope_err, send_fault, message_fault, receive_fault, part_count}
 use Rattle.scope_ops.specs.Ops.{regions_of, put_of, get_of, Fits, IsPoint}
+use Rattle.scope_ops.specs.Calls.{IsMade}
 use Rattle.scope_ops.proofs.Fitting.{is_part, is_good}
+use Rattle.scope_ops.proofs.Within.{grown_within, unused_within}
 
 -- a send of the part, in each state of the plan before
 pub send_appends : (v : ShapesView) (p q : PlanView RankOp) (from to : ℕ) (shape : Shape) (part : Part) → from < v.ranks → part.array < v.count → Fits (shape_of v from part.array) part → q.ranks ≡ p.ranks
@@ -107,16 +109,16 @@ full_answer : (full : Bool) (e : PlanErr) → MatchOption (full_fault rank_steps
 full_answer true e h = let k : e ≡ plan_err.TooManyOps = cc in inl (ap (λ x. Err (as_scope_err x)) k)
 full_answer false e h = ap as_scope_err h
 
-many_is : (p : PlanView RankOp) → many_fault p 1 ≡ cond (is_full rank_steps p) (Some TooManyOps) None
+many_is : (p : PlanView RankOp) → many_fault (length p.steps) 1 ≡ cond (is_full rank_steps p) (Some TooManyOps) None
 many_is p = ap (λ t. cond t (Some TooManyOps) None) (full_same (length p.steps))
 
 -- why the plan refuses one operation more is why the call does
 pub send_refused : (p : PlanView RankOp) (v : ShapesView) (g : Grid) (me dest : ℕ × ℕ) (ranks : ℕ × ℕ) (part : Part) (e : PlanErr) → IsPoint g v me dest part ranks
-    → MatchOption (full_fault rank_steps (is_full rank_steps p)) (IsOkUnless {T = Unit {0}} (Err e) plan_err.NoMemory) (λ f. ◌≡◌ {A = Result (Unit {0}) PlanErr} (Err e) (Err f)) → IsAnswer (Err (as_scope_err e)) (send_fault p v g me part dest)
+    → MatchOption (full_fault rank_steps (is_full rank_steps p)) (IsOkUnless {T = Unit {0}} (Err e) plan_err.NoMemory) (λ f. ◌≡◌ {A = Result (Unit {0}) PlanErr} (Err e) (Err f)) → IsAnswer (Err (as_scope_err e)) (send_fault (length p.steps) v g me part dest)
 send_refused p v g me dest ranks part e is refuses =
-    subst (λ (o : Option ScopeErr). IsAnswer (Err (as_scope_err e)) o) (sym (is.no_fault (many_fault p 1) ∙ many_is p)) (full_answer (is_full rank_steps p) e refuses)
+    subst (λ (o : Option ScopeErr). IsAnswer (Err (as_scope_err e)) o) (sym (is.no_fault (many_fault (length p.steps) 1) ∙ many_is p)) (full_answer (is_full rank_steps p) e refuses)
 
-pub send_means : (v : ShapesView) (p q : PlanView RankOp) (g : Grid) (me dest ranks : ℕ × ℕ) (shape : Shape) (part : Part) → IsPoint g v me dest part ranks → part.array < v.count → q.ranks ≡ p.ranks → q.steps ≡ p.steps ++ (ranks.0, put_of ranks.1 shape part) ∷ []
+send_means : (v : ShapesView) (p q : PlanView RankOp) (g : Grid) (me dest ranks : ℕ × ℕ) (shape : Shape) (part : Part) → IsPoint g v me dest part ranks → part.array < v.count → q.ranks ≡ p.ranks → q.steps ≡ p.steps ++ (ranks.0, put_of ranks.1 shape part) ∷ []
     → Appends v p q (sent_line (rank_of g me) (rank_of g dest) shape part)
 send_means v p q g me dest ranks shape part is la same steps =
     let f : Appends v p q (sent_line ranks.0 ranks.1 shape part) = send_appends v p q ranks.0 ranks.1 shape part is.me_within la is.part_fits same steps in
@@ -138,7 +140,7 @@ count_is shape part = ap length (part_is_region (cut_of shape part) part.i part.
 abbrev pub Said : PlanView RankOp → ℕ × ℕ → Shape → Part → Result (Unit {0}) PlanErr → Type 0
 Said p ranks shape part result = MatchOption (first_fault (slice_get (waiting_lens rank_steps p ranks.1 ranks.0) 0) ranks.1 ranks.0 (selected_count (cut_of shape part) (regions_of shape part)) (is_full rank_steps p)) (IsOkUnless result plan_err.NoMemory) (λ f. result ≡ Err f)
 
-pub receive_means : (v : ShapesView) (p q : PlanView RankOp) (g : Grid) (me src ranks : ℕ × ℕ) (shape : Shape) (part : Part) (x : Unit {0}) → IsPoint g v me src part ranks → part.array < v.count → q.ranks ≡ p.ranks → Said p ranks shape part (Ok x)
+receive_means : (v : ShapesView) (p q : PlanView RankOp) (g : Grid) (me src ranks : ℕ × ℕ) (shape : Shape) (part : Part) (x : Unit {0}) → IsPoint g v me src part ranks → part.array < v.count → q.ranks ≡ p.ranks → Said p ranks shape part (Ok x)
     → q.steps ≡ p.steps ++ (ranks.0, get_of ranks.1 shape part) ∷ [] → Appends v p q (received_line (rank_of g src) (rank_of g me) shape part)
 receive_means v p q g me src ranks shape part x is la same said steps =
     let first : slice_get (waiting_lens rank_steps p ranks.1 ranks.0) 0 ≡ Some (part_count shape part) = first_there (slice_get (waiting_lens rank_steps p ranks.1 ranks.0) 0) ranks.1 ranks.0 (selected_count (cut_of shape part) (regions_of shape part)) (is_full rank_steps p) x said ∙ ap (λ n. Some n) (count_is shape part) in
@@ -167,24 +169,44 @@ message_answer (Some have) from to want full result h = elim (eqb_tells have wan
   wrong (Err e) h = let k : e ≡ plan_err.WrongLength have want = cc in inl (ap (λ x. Err (as_scope_err x)) k)
 
 receive_fault_is : (p : PlanView RankOp) (v : ShapesView) (g : Grid) (me src ranks : ℕ × ℕ) (shape : Shape) (part : Part) → IsPoint g v me src part ranks
-    → receive_fault p v g me shape part src ≡ message_fault (slice_get (waiting_lens rank_steps p ranks.1 ranks.0) 0) ranks.1 ranks.0 (selected_count (cut_of shape part) (regions_of shape part)) (cond (is_full rank_steps p) (Some TooManyOps) None)
+    → receive_fault (length p.steps) (waiting_lens rank_steps p) v g me shape part src ≡ message_fault (slice_get (waiting_lens rank_steps p ranks.1 ranks.0) 0) ranks.1 ranks.0 (selected_count (cut_of shape part) (regions_of shape part)) (cond (is_full rank_steps p) (Some TooManyOps) None)
 receive_fault_is p v g me src ranks shape part is =
     is.no_fault _
-    ∙ (ap (λ (r : ℕ). message_fault (slice_get (waiting_lens rank_steps p r (rank_of g me)) 0) r (rank_of g me) (part_count shape part) (many_fault p 1)) is.other_is
-    ∙ (ap (λ (r : ℕ). message_fault (slice_get (waiting_lens rank_steps p ranks.1 r) 0) ranks.1 r (part_count shape part) (many_fault p 1)) is.me_is
-    ∙ (ap (λ (n : ℕ). message_fault (slice_get (waiting_lens rank_steps p ranks.1 ranks.0) 0) ranks.1 ranks.0 n (many_fault p 1)) (sym (count_is shape part))
+    ∙ (ap (λ (r : ℕ). message_fault (slice_get (waiting_lens rank_steps p r (rank_of g me)) 0) r (rank_of g me) (part_count shape part) (many_fault (length p.steps) 1)) is.other_is
+    ∙ (ap (λ (r : ℕ). message_fault (slice_get (waiting_lens rank_steps p ranks.1 r) 0) ranks.1 r (part_count shape part) (many_fault (length p.steps) 1)) is.me_is
+    ∙ (ap (λ (n : ℕ). message_fault (slice_get (waiting_lens rank_steps p ranks.1 ranks.0) 0) ranks.1 ranks.0 n (many_fault (length p.steps) 1)) (sym (count_is shape part))
     ∙ ap (λ (o : Option ScopeErr). message_fault (slice_get (waiting_lens rank_steps p ranks.1 ranks.0) 0) ranks.1 ranks.0 (selected_count (cut_of shape part) (regions_of shape part)) o) (many_is p))))
 
-receive_answer : (p : PlanView RankOp) (v : ShapesView) (g : Grid) (me src ranks : ℕ × ℕ) (shape : Shape) (part : Part) (result : Result (Unit {0}) PlanErr) → IsPoint g v me src part ranks → Said p ranks shape part result → IsAnswer (as_call result) (receive_fault p v g me shape part src)
+receive_answer : (p : PlanView RankOp) (v : ShapesView) (g : Grid) (me src ranks : ℕ × ℕ) (shape : Shape) (part : Part) (result : Result (Unit {0}) PlanErr) → IsPoint g v me src part ranks → Said p ranks shape part result → IsAnswer (as_call result) (receive_fault (length p.steps) (waiting_lens rank_steps p) v g me shape part src)
 receive_answer p v g me src ranks shape part result is said =
     subst (λ (o : Option ScopeErr). IsAnswer (as_call result) o) (sym (receive_fault_is p v g me src ranks shape part is))
     (message_answer (slice_get (waiting_lens rank_steps p ranks.1 ranks.0) 0) ranks.1 ranks.0 (selected_count (cut_of shape part) (regions_of shape part)) (is_full rank_steps p) result said)
 
-pub receive_taken : (p : PlanView RankOp) (v : ShapesView) (g : Grid) (me src ranks : ℕ × ℕ) (shape : Shape) (part : Part) (x : Unit {0}) → IsPoint g v me src part ranks → Said p ranks shape part (Ok x) → IsAnswer (Ok x) (receive_fault p v g me shape part src)
+pub receive_taken : (p : PlanView RankOp) (v : ShapesView) (g : Grid) (me src ranks : ℕ × ℕ) (shape : Shape) (part : Part) (x : Unit {0}) → IsPoint g v me src part ranks → Said p ranks shape part (Ok x) → IsAnswer (Ok x) (receive_fault (length p.steps) (waiting_lens rank_steps p) v g me shape part src)
 receive_taken p v g me src ranks shape part x is said = receive_answer p v g me src ranks shape part (Ok x) is said
 
-pub receive_refused : (p : PlanView RankOp) (v : ShapesView) (g : Grid) (me src ranks : ℕ × ℕ) (shape : Shape) (part : Part) (e : PlanErr) → IsPoint g v me src part ranks → Said p ranks shape part (Err e) → IsAnswer (Err (as_scope_err e)) (receive_fault p v g me shape part src)
+pub receive_refused : (p : PlanView RankOp) (v : ShapesView) (g : Grid) (me src ranks : ℕ × ℕ) (shape : Shape) (part : Part) (e : PlanErr) → IsPoint g v me src part ranks → Said p ranks shape part (Err e) → IsAnswer (Err (as_scope_err e)) (receive_fault (length p.steps) (waiting_lens rank_steps p) v g me shape part src)
 receive_refused p v g me src ranks shape part e is said = receive_answer p v g me src ranks shape part (Err e) is said
 
-pub send_grows : (p q : PlanView RankOp) (r to : ℕ) (shape : Shape) (part : Part) → q.steps ≡ p.steps ++ (r, put_of to shape part) ∷ [] → Grows p q 1 1 (part_count shape part)
+send_grows : (p q : PlanView RankOp) (r to : ℕ) (shape : Shape) (part : Part) → q.steps ≡ p.steps ++ (r, put_of to shape part) ∷ [] → Grows p q 1 1 (part_count shape part)
 send_grows p q r to shape part steps = one_more p q r (put_of to shape part) (Send to (part_count shape part)) (ap (λ n. Send to n) (count_is shape part)) steps
+
+receive_grows : (p q : PlanView RankOp) (r from : ℕ) (shape : Shape) (part : Part) → q.steps ≡ p.steps ++ (r, get_of from shape part) ∷ [] → Grows p q 1 0 0
+receive_grows p q r from shape part steps = one_more p q r (get_of from shape part) (Recv from (part_count shape part)) (ap (λ n. Recv from n) (count_is shape part)) steps
+
+-- all that a send and a receive promise
+pub send_made : (v : ShapesView) (p q : PlanView RankOp) (g : Grid) (me dest ranks : ℕ × ℕ) (shape : Shape) (part : Part) → IsPoint g v me dest part ranks → part.array < v.count → q.ranks ≡ p.ranks → q.steps ≡ p.steps ++ (ranks.0, put_of ranks.1 shape part) ∷ []
+    → IsMade v p q (sent_line (rank_of g me) (rank_of g dest) shape part) 1 1 (part_count shape part)
+send_made v p q g me dest ranks shape part is la same steps = record {
+  appends = send_means v p q g me dest ranks shape part is la same steps;
+  grows = send_grows p q ranks.0 ranks.1 shape part steps;
+  scratch = grown_within v p.steps ((ranks.0, put_of ranks.1 shape part) ∷ []) q.steps steps (unused_within v ranks.0 (put_of ranks.1 shape part) refl);
+}
+
+pub receive_made : (v : ShapesView) (p q : PlanView RankOp) (g : Grid) (me src ranks : ℕ × ℕ) (shape : Shape) (part : Part) (x : Unit {0}) → IsPoint g v me src part ranks → part.array < v.count → q.ranks ≡ p.ranks → Said p ranks shape part (Ok x)
+    → q.steps ≡ p.steps ++ (ranks.0, get_of ranks.1 shape part) ∷ [] → IsMade v p q (received_line (rank_of g src) (rank_of g me) shape part) 1 0 0
+receive_made v p q g me src ranks shape part x is la same said steps = record {
+  appends = receive_means v p q g me src ranks shape part x is la same said steps;
+  grows = receive_grows p q ranks.0 ranks.1 shape part steps;
+  scratch = grown_within v p.steps ((ranks.0, get_of ranks.1 shape part) ∷ []) q.steps steps (unused_within v ranks.0 (get_of ranks.1 shape part) refl);
+}

@@ -1,13 +1,11 @@
 -- Why a combine or a barrier is refused: the first cause in its order.
 use Rattle.std.specs.Prelude.{ℕ, ◌-◌, ◌*◌, Bool, true, false, not, ◌&&◌, ◌||◌, ◌==◌, nat_le, nat_lt, Option, Some, None, is_none, List, length, slice_index, if◌then◌else◌}
 use Rattle.std.specs.Option.{option_or}
-use Rattle.msg_core.specs.Plans.{PlanView}
 use Rattle.proc_grid.specs.FirstOf.{first_of}
 use Rattle.proc_grid.specs.Grid.{Grid}
 use Rattle.proc_grid.specs.Scopes.{members, position_in}
 use Rattle.proc_grid.specs.declared.scope.Scope.{Scope}
 use Rattle.proc_grid.specs.declared.scope.Scope.TheVariants.{Row, Column, All}
-use Rattle.pack_words.specs.declared.rank_op.RankOp.{RankOp}
 use Rattle.pack_words.specs.GridShapes.{ShapesView, shape_of}
 use Rattle.scope_ops.specs.declared.part.Part.{Part}
 use Rattle.scope_ops.specs.declared.scope_err.ScopeErr.{ScopeErr}
@@ -66,12 +64,14 @@ arrays_fault v ranks part rc =
     else if not (all_below (is_in_arrays v ranks part rc) (length ranks)) then Some OutOfArray
     else first_lead v ranks part rc
 
-abbrev pub combine_fault : PlanView RankOp → ShapesView → Grid → Scope → Option (ℕ × ℕ) → Part → Option (ℕ × ℕ) → Option ScopeErr
-combine_fault p v g scope dest part rc =
+-- why a combine is refused, of a plan that has so many operations
+abbrev pub combine_fault : ℕ → ShapesView → Grid → Scope → Option (ℕ × ℕ) → Part → Option (ℕ × ℕ) → Option ScopeErr
+combine_fault have v g scope dest part rc =
     if is_none (position_in g scope (root_place scope dest)) then Some NotInGrid
-    else option_or (arrays_fault v (members g scope) part rc) (many_fault p (combine_count (length (members g scope)) dest))
+    else option_or (arrays_fault v (members g scope) part rc) (many_fault have (combine_count (length (members g scope)) dest))
 
-abbrev pub barrier_fault : PlanView RankOp → Grid → Scope → Option ScopeErr
-barrier_fault p g scope =
+-- and a barrier
+abbrev pub barrier_fault : ℕ → Grid → Scope → Option ScopeErr
+barrier_fault have g scope =
     if is_none (position_in g scope (root_place scope None)) then Some NotInGrid
-    else many_fault p (4 * (length (members g scope) - 1))
+    else many_fault have (4 * (length (members g scope) - 1))

@@ -9,3 +9,4 @@ pub mod Scratch
 pub mod Combines
 pub mod CombineOps
 pub mod CombineRefusals
+pub mod Calls

@@ -1,12 +1,11 @@
 -- Why a call is refused: the first cause in its order. Want of memory may come in the place of any answer.
-use Rattle.std.specs.Prelude.{◌≡◌, ℕ, ◌+◌, ◌<◌, ◌⊎◌, cond, not, ◌&&◌, nat_eq, nat_lt, Option, Some, None, Result, Err, IsOkUnless, length, slice_get, slice_index, if◌then◌else◌}
-use Rattle.msg_core.specs.Plans.{PlanView, waiting_lens}
+use Rattle.std.specs.Prelude.{◌≡◌, ℕ, ◌+◌, ◌<◌, ◌⊎◌, cond, not, ◌&&◌, nat_eq, nat_lt, Option, Some, None, Result, Err, IsOkUnless, List, length, slice_get, slice_index, if◌then◌else◌}
+use Rattle.msg_core.specs.Plans.{PlanView}
 use Rattle.msg_core.specs.declared.fault.PlanErr.{PlanErr}
 use Rattle.msg_core.specs.declared.fault.PlanErr.TheVariants as plan_err
 use Rattle.proc_grid.specs.Grid.{Grid, is_in, rank_of}
 use Rattle.pack_words.specs.declared.shape.Shape.{Shape}
 use Rattle.pack_words.specs.declared.rank_op.RankOp.{RankOp}
-use Rattle.pack_words.specs.GridState.{rank_steps}
 use Rattle.pack_words.specs.GridShapes.{ShapesView, shape_of}
 use Rattle.pack_words.specs.Parts.{part_spots}
 use Rattle.scope_ops.specs.declared.part.Part.{Part}
@@ -19,9 +18,9 @@ pub record AreOfOneWorld (p : PlanView RankOp) (v : ShapesView) (g : Grid) : Typ
   pub shapes_ranks : v.ranks ≡ p.ranks
   pub grid_ranks : (k : ℕ) → k < length g.ranks → slice_index g.ranks k < p.ranks
 
--- so many operations more are too many
-abbrev pub many_fault : PlanView RankOp → ℕ → Option ScopeErr
-many_fault p ops = if nat_lt 1048576 (length p.steps + ops) then Some TooManyOps else None
+-- so many operations more are too many for a plan that has some
+abbrev pub many_fault : ℕ → ℕ → Option ScopeErr
+many_fault have more = if nat_lt 1048576 (have + more) then Some TooManyOps else None
 
 -- why a call refuses with this first cause, or none
 abbrev pub IsAnswer : Result (Unit {0}) ScopeErr → Option ScopeErr → Type 0
@@ -42,8 +41,9 @@ point_fault g v me other part later =
     else if not (fits (shape_of v (rank_of g me) part.array) part) then Some OutOfArray
     else later
 
-abbrev pub send_fault : PlanView RankOp → ShapesView → Grid → ℕ × ℕ → Part → ℕ × ℕ → Option ScopeErr
-send_fault p v g me part dest = point_fault g v me dest part (many_fault p 1)
+-- why a send is refused, of a plan that has so many operations
+abbrev pub send_fault : ℕ → ShapesView → Grid → ℕ × ℕ → Part → ℕ × ℕ → Option ScopeErr
+send_fault have v g me part dest = point_fault g v me dest part (many_fault have 1)
 
 -- the first message that waits has this length, or why not; else what comes then
 abbrev pub message_fault : Option ℕ → ℕ → ℕ → ℕ → Option ScopeErr → Option ScopeErr
@@ -54,7 +54,8 @@ message_fault (Some have) from to want later = cond (nat_eq have want) later (So
 abbrev pub part_count : Shape → Part → ℕ
 part_count shape part = length (part_spots (cut_of shape part) part.i part.j)
 
-abbrev pub receive_fault : PlanView RankOp → ShapesView → Grid → ℕ × ℕ → Shape → Part → ℕ × ℕ → Option ScopeErr
-receive_fault p v g me shape part src =
+-- why a receive is refused, of a plan that has so many operations, where messages of these lengths wait for each pair
+abbrev pub receive_fault : ℕ → (ℕ → ℕ → List ℕ) → ShapesView → Grid → ℕ × ℕ → Shape → Part → ℕ × ℕ → Option ScopeErr
+receive_fault have lens v g me shape part src =
     point_fault g v me src part
-    (message_fault (slice_get (waiting_lens rank_steps p (rank_of g src) (rank_of g me)) 0) (rank_of g src) (rank_of g me) (part_count shape part) (many_fault p 1))
+    (message_fault (slice_get (lens (rank_of g src) (rank_of g me)) 0) (rank_of g src) (rank_of g me) (part_count shape part) (many_fault have 1))

@@ -1,10 +1,8 @@
 -- A place in a scope, and which members use which part.
 use Rattle.std.specs.Prelude.{◌≡◌, ℕ, zero, suc, ◌<◌, ◌≤◌, ◌-◌, ◌*◌, Bool, true, not, ◌&&◌, Option, Some, is_none, List, length, slice_index, if◌then◌else◌}
-use Rattle.msg_core.specs.Plans.{PlanView}
 use Rattle.proc_grid.specs.Grid.{Grid, IsGrid, or_zero}
 use Rattle.proc_grid.specs.Scopes.{IsPosition, members, position_in}
 use Rattle.proc_grid.specs.declared.scope.Scope.{Scope}
-use Rattle.pack_words.specs.declared.rank_op.RankOp.{RankOp}
 use Rattle.pack_words.specs.GridShapes.{ShapesView, IsShapes, shape_of}
 use Rattle.scope_ops.specs.declared.part.Part.{Part}
 use Rattle.scope_ops.specs.declared.part.Spot.{Spot}
@@ -34,9 +32,9 @@ all_below test (suc n) = all_below test n && test n
 abbrev pub member_fits : ShapesView → List ℕ → ℕ → Part → Spot → ℕ → Bool
 member_fits v ranks source part rcv k = fits (shape_of v (slice_index ranks k) (part_sent source part rcv k).array) (part_sent source part rcv k)
 
--- why a broadcast is refused
-abbrev pub broadcast_fault : PlanView RankOp → ShapesView → Grid → Scope → Part → ℕ × ℕ → Spot → Option ScopeErr
-broadcast_fault p v g scope part src rcv =
+-- why a broadcast is refused, of a plan that has so many operations
+abbrev pub broadcast_fault : ℕ → ShapesView → Grid → Scope → Part → ℕ × ℕ → Spot → Option ScopeErr
+broadcast_fault have v g scope part src rcv =
     if is_none (position_in g scope src) then Some NotInGrid
     else if not (all_below (member_fits v (members g scope) (or_zero (position_in g scope src)) part rcv) (length (members g scope))) then Some OutOfArray
-    else many_fault p (2 * (length (members g scope) - 1))
+    else many_fault have (2 * (length (members g scope) - 1))

@@ -1,13 +1,12 @@
 //! Barriers of a scope. A User's Guide to the BLACS, BLACS_BARRIER.
 
 ghost use Rattle.std.specs.Prelude.{◌≡◌, ◌<◌, ◌≤◌, ◌+◌, ◌-◌, ◌*◌, ◌++◌, ℕ, None, length, OnOk, OnErr};
-ghost use Rattle.proc_grid.specs.Scopes.{IsScopeOf, members};
+ghost use Rattle.proc_grid.specs.Scopes.{members};
 ghost use Rattle.route_tree.specs.Routes.{IsRoute};
 ghost use Rattle.route_tree.specs.Parents.{edges_of};
 ghost use Rattle.route_plans.specs.Members.{AreFree};
 ghost use Rattle.pack_words.specs.GridState.{rank_steps};
-ghost use Rattle.pack_words.specs.GridPlans.{Appends, Grows};
-ghost use Rattle.scope_ops.specs.Broadcasts.{IsQuiet};
+ghost use Rattle.scope_ops.specs.Calls.{IsMade, IsKept, IsScopeQuiet};
 ghost use Rattle.scope_ops.specs.CombineOps.{barrier_ops, IsPulsed};
 ghost use Rattle.scope_ops.specs.CombineRefusals.{barrier_fault};
 ghost use Rattle.scope_ops.specs.Refusals.{AreOfOneWorld, IsAnswer, many_fault};
@@ -45,7 +44,7 @@ fn push_barrier(alloc: Global, plan: &mut Plan<RankOp>, members: &[u32]) -> Resu
     requires some { 0 < length members.now }
     requires most { length members.now ≤ 64 }
     requires members { AreFree rank_steps members.now plan.old }
-    ensures fault { IsAnswer result (many_fault plan.old (4 * (length members.now - 1))) }
+    ensures fault { IsAnswer result (many_fault (length plan.old.steps) (4 * (length members.now - 1))) }
     ensures ok { OnOk result (IsPulsed plan.old plan.new members.now) }
     ensures err { OnErr result (plan.new.steps ≡ plan.old.steps) }
     ensures ranks { plan.new.ranks ≡ plan.old.ranks }
@@ -71,15 +70,13 @@ pub fn barrier(
     scope: Scope,
 ) -> Result<(), ScopeErr>
     requires world { AreOfOneWorld plan.old shapes.now ctx.now }
-    requires quiet { IsScopeOf ctx.now scope → IsQuiet plan.old (members ctx.now scope) }
-    ensures fault { IsAnswer result (barrier_fault plan.old ctx.now scope) }
-    ensures ok { OnOk result (Appends shapes.now plan.old plan.new (λ s. s)) }
-    ensures counts { let others = length (members ctx.now scope) - 1 in
-        OnOk result (Grows plan.old plan.new (4 * others) (2 * others) 0) }
+    requires quiet { IsScopeQuiet plan.old ctx.now scope }
+    ensures fault { IsAnswer result (barrier_fault (length plan.old.steps) ctx.now scope) }
+    ensures ok { let others = length (members ctx.now scope) - 1 in
+        OnOk result (IsMade shapes.now plan.old plan.new (λ s. s) (4 * others) (2 * others) 0) }
     ensures along { let ranks = members ctx.now scope in
         OnOk result (plan.new.steps ≡ plan.old.steps ++ barrier_ops ranks (edges_of Top.H (length ranks) 0)) }
-    ensures err { OnErr result (plan.new.steps ≡ plan.old.steps) }
-    ensures ranks { plan.new.ranks ≡ plan.old.ranks }
+    ensures kept { IsKept result plan.old plan.new }
 {
     let (ranks, _first) = match listed(alloc, shapes, ctx, scope, root_place(scope, None)) {
         Ok(found) => found,

@@ -2,15 +2,12 @@
 
 ghost use Rattle.std.specs.Prelude.{◌≡◌, ◌<◌, ◌≤◌, ◌+◌, ◌-◌, ◌*◌, [], ◌∷◌, ◌++◌, length, OnOk, OnErr};
 ghost use Rattle.msg_core.specs.Plans.{waiting_lens};
-ghost use Rattle.proc_grid.specs.Scopes.{IsScopeOf, members, position_in};
-ghost use Rattle.route_tree.specs.Parents.{HasBranches, edges_of};
+ghost use Rattle.route_tree.specs.Parents.{HasBranches};
 ghost use Rattle.route_tree.specs.Routes.{IsRoute};
 ghost use Rattle.pack_words.specs.declared.shape.Shape.TheVariants.{Ge, Tr};
 ghost use Rattle.pack_words.specs.GridState.{rank_steps};
-ghost use Rattle.pack_words.specs.GridPlans.{Appends, Grows};
-ghost use Rattle.scope_ops.specs.Lines.{broadcast_line};
-ghost use Rattle.scope_ops.specs.Refusals.{AreOfOneWorld, IsAnswer, part_count, many_fault};
-ghost use Rattle.proc_grid.specs.Grid.{or_zero, rank_of};
+ghost use Rattle.scope_ops.specs.Calls.{IsBroadcastMade, IsBroadcastAlong, IsKept, IsScopeQuiet};
+ghost use Rattle.scope_ops.specs.Refusals.{AreOfOneWorld, IsAnswer, many_fault};
 ghost use Rattle.scope_ops.specs.Ops.{IsGoodPart, put_of, get_of};
 ghost use Rattle.scope_ops.specs.Parts.{part_from, cut_of};
 ghost use Rattle.scope_ops.specs.Broadcasts.{part_sent, edge_ops, AreMembers, IsQuiet, IsRouted};
@@ -96,7 +93,7 @@ fn push_route(
     requires quiet { IsQuiet plan.old members.now }
     requires part { IsGoodPart shape part.now }
     requires target { 1 < length members.now → IsGoodPart shape (part_from rcv.now part.now) }
-    ensures fault { IsAnswer result (many_fault plan.old (2 * (length members.now - 1))) }
+    ensures fault { IsAnswer result (many_fault (length plan.old.steps) (2 * (length members.now - 1))) }
     ensures ok { OnOk result (IsRouted plan.old plan.new top members.now source shape part.now rcv.now) }
     ensures err { OnErr result (plan.new.steps ≡ plan.old.steps) }
     ensures ranks { plan.new.ranks ≡ plan.old.ranks }
@@ -128,17 +125,11 @@ fn broadcast_part(
     requires array { part.now.array < shapes.now.count }
     requires rcv_array { rcv.now.array < shapes.now.count }
     requires top { HasBranches top }
-    requires quiet { IsScopeOf ctx.now scope → IsQuiet plan.old (members ctx.now scope) }
-    ensures fault { IsAnswer result (broadcast_fault plan.old shapes.now ctx.now scope part.now src rcv.now) }
-    ensures ok { OnOk result (Appends shapes.now plan.old plan.new
-        (broadcast_line (members ctx.now scope) (rank_of ctx.now src) shape part.now (part_from rcv.now part.now))) }
-    ensures counts { let others = length (members ctx.now scope) - 1 in
-        OnOk result (Grows plan.old plan.new (2 * others) others (others * part_count shape part.now)) }
-    ensures along { let ranks = members ctx.now scope in let source = or_zero (position_in ctx.now scope src) in
-        OnOk result (plan.new.steps ≡ plan.old.steps ++
-        edge_ops ranks source shape part.now rcv.now (edges_of top (length ranks) source)) }
-    ensures err { OnErr result (plan.new.steps ≡ plan.old.steps) }
-    ensures ranks { plan.new.ranks ≡ plan.old.ranks }
+    requires quiet { IsScopeQuiet plan.old ctx.now scope }
+    ensures fault { IsAnswer result (broadcast_fault (length plan.old.steps) shapes.now ctx.now scope part.now src rcv.now) }
+    ensures ok { OnOk result (IsBroadcastMade shapes.now plan.old plan.new ctx.now scope shape part.now src rcv.now) }
+    ensures along { OnOk result (IsBroadcastAlong plan.old plan.new ctx.now scope top shape part.now src rcv.now) }
+    ensures kept { IsKept result plan.old plan.new }
 {
     let (ranks, source) = match listed(alloc, shapes, ctx, scope, src) {
         Ok(members) => members,
@@ -168,17 +159,11 @@ pub fn igebs2d(
     requires array { part.now.array < shapes.now.count }
     requires rcv_array { rcv.now.array < shapes.now.count }
     requires top { HasBranches top }
-    requires quiet { IsScopeOf ctx.now scope → IsQuiet plan.old (members ctx.now scope) }
-    ensures fault { IsAnswer result (broadcast_fault plan.old shapes.now ctx.now scope part.now src rcv.now) }
-    ensures ok { OnOk result (Appends shapes.now plan.old plan.new
-        (broadcast_line (members ctx.now scope) (rank_of ctx.now src) Ge part.now (part_from rcv.now part.now))) }
-    ensures counts { let others = length (members ctx.now scope) - 1 in
-        OnOk result (Grows plan.old plan.new (2 * others) others (others * part_count Ge part.now)) }
-    ensures along { let ranks = members ctx.now scope in let source = or_zero (position_in ctx.now scope src) in
-        OnOk result (plan.new.steps ≡ plan.old.steps ++
-        edge_ops ranks source Ge part.now rcv.now (edges_of top (length ranks) source)) }
-    ensures err { OnErr result (plan.new.steps ≡ plan.old.steps) }
-    ensures ranks { plan.new.ranks ≡ plan.old.ranks }
+    requires quiet { IsScopeQuiet plan.old ctx.now scope }
+    ensures fault { IsAnswer result (broadcast_fault (length plan.old.steps) shapes.now ctx.now scope part.now src rcv.now) }
+    ensures ok { OnOk result (IsBroadcastMade shapes.now plan.old plan.new ctx.now scope Ge part.now src rcv.now) }
+    ensures along { OnOk result (IsBroadcastAlong plan.old plan.new ctx.now scope top Ge part.now src rcv.now) }
+    ensures kept { IsKept result plan.old plan.new }
 {
     broadcast_part(
         alloc,
@@ -212,18 +197,11 @@ pub fn itrbs2d(
     requires array { part.now.array < shapes.now.count }
     requires rcv_array { rcv.now.array < shapes.now.count }
     requires top { HasBranches top }
-    requires quiet { IsScopeOf ctx.now scope → IsQuiet plan.old (members ctx.now scope) }
-    ensures fault { IsAnswer result (broadcast_fault plan.old shapes.now ctx.now scope part.now src rcv.now) }
-    ensures ok { OnOk result (Appends shapes.now plan.old plan.new
-        (broadcast_line (members ctx.now scope) (rank_of ctx.now src) (Tr uplo diag) part.now
-        (part_from rcv.now part.now))) }
-    ensures counts { let others = length (members ctx.now scope) - 1 in
-        OnOk result (Grows plan.old plan.new (2 * others) others (others * part_count (Tr uplo diag) part.now)) }
-    ensures along { let ranks = members ctx.now scope in let source = or_zero (position_in ctx.now scope src) in
-        OnOk result (plan.new.steps ≡ plan.old.steps ++
-        edge_ops ranks source (Tr uplo diag) part.now rcv.now (edges_of top (length ranks) source)) }
-    ensures err { OnErr result (plan.new.steps ≡ plan.old.steps) }
-    ensures ranks { plan.new.ranks ≡ plan.old.ranks }
+    requires quiet { IsScopeQuiet plan.old ctx.now scope }
+    ensures fault { IsAnswer result (broadcast_fault (length plan.old.steps) shapes.now ctx.now scope part.now src rcv.now) }
+    ensures ok { OnOk result (IsBroadcastMade shapes.now plan.old plan.new ctx.now scope (Tr uplo diag) part.now src rcv.now) }
+    ensures along { OnOk result (IsBroadcastAlong plan.old plan.new ctx.now scope top (Tr uplo diag) part.now src rcv.now) }
+    ensures kept { IsKept result plan.old plan.new }
 {
     broadcast_part(
         alloc,

@@ -1,15 +1,11 @@
 //! Combines of a scope. A User's Guide to the BLACS, IGSUM2D, IGAMX2D and IGAMN2D.
 
-ghost use Rattle.std.specs.Prelude.{◌≡◌, ◌<◌, ◌*◌, ◌++◌, None, length, OnOk, OnErr};
-ghost use Rattle.proc_grid.specs.Scopes.{IsScopeOf, members};
+ghost use Rattle.std.specs.Prelude.{◌≡◌, ◌<◌, None, length, OnOk};
 ghost use Rattle.route_tree.specs.Parents.{HasBranches};
-ghost use Rattle.pack_words.specs.GridPlans.{Appends, Grows};
-ghost use Rattle.pack_words.specs.Accumulators.{message_words, has_places};
 ghost use Rattle.pack_words.specs.declared.fold_kind.FoldKind.TheVariants.{Sum, AbsMax, AbsMin};
-ghost use Rattle.scope_ops.specs.Broadcasts.{IsQuiet};
-ghost use Rattle.scope_ops.specs.Combines.{combine_line};
+ghost use Rattle.scope_ops.specs.Calls.{IsCombineMade, IsKept, IsScopeQuiet};
 ghost use Rattle.scope_ops.specs.CombineOps.{AreThere, AreAskable, IsAlong, coords_of};
-ghost use Rattle.scope_ops.specs.CombineRefusals.{combine_count, combine_messages, combine_fault};
+ghost use Rattle.scope_ops.specs.CombineRefusals.{combine_fault};
 ghost use Rattle.scope_ops.specs.Refusals.{AreOfOneWorld, IsAnswer};
 
 use crate::arrays::check_arrays;
@@ -55,15 +51,11 @@ fn combine(
     requires arrays { AreThere shapes.now part.now rc }
     requires ask { AreAskable fold rc }
     requires top { HasBranches top }
-    requires quiet { IsScopeOf ctx.now scope → IsQuiet plan.old (members ctx.now scope) }
-    ensures fault { IsAnswer result (combine_fault plan.old shapes.now ctx.now scope dest part.now rc) }
-    ensures ok { OnOk result (Appends shapes.now plan.old plan.new (combine_line ctx.now scope dest fold part.now rc)) }
-    ensures counts { let n = length (members ctx.now scope) in let messages = combine_messages n dest in
-        OnOk result (Grows plan.old plan.new (combine_count n dest) messages
-        (messages * message_words (has_places fold) (part.now.m * part.now.n))) }
+    requires quiet { IsScopeQuiet plan.old ctx.now scope }
+    ensures fault { IsAnswer result (combine_fault (length plan.old.steps) shapes.now ctx.now scope dest part.now rc) }
+    ensures ok { OnOk result (IsCombineMade shapes.now plan.old plan.new ctx.now scope fold part.now rc dest) }
     ensures along { OnOk result (IsAlong plan.old plan.new ctx.now scope top fold part.now rc dest) }
-    ensures err { OnErr result (plan.new.steps ≡ plan.old.steps) }
-    ensures ranks { plan.new.ranks ≡ plan.old.ranks }
+    ensures kept { IsKept result plan.old plan.new }
 {
     let (ranks, root) = match listed(alloc, shapes, ctx, scope, root_place(scope, dest)) {
         Ok(found) => found,
@@ -97,14 +89,11 @@ pub fn igsum2d(
     requires world { AreOfOneWorld plan.old shapes.now ctx.now }
     requires array { part.now.array < shapes.now.count }
     requires top { HasBranches top }
-    requires quiet { IsScopeOf ctx.now scope → IsQuiet plan.old (members ctx.now scope) }
-    ensures fault { IsAnswer result (combine_fault plan.old shapes.now ctx.now scope dest part.now None) }
-    ensures ok { OnOk result (Appends shapes.now plan.old plan.new (combine_line ctx.now scope dest Sum part.now None)) }
-    ensures counts { let n = length (members ctx.now scope) in let messages = combine_messages n dest in
-        OnOk result (Grows plan.old plan.new (combine_count n dest) messages (messages * (part.now.m * part.now.n))) }
+    requires quiet { IsScopeQuiet plan.old ctx.now scope }
+    ensures fault { IsAnswer result (combine_fault (length plan.old.steps) shapes.now ctx.now scope dest part.now None) }
+    ensures ok { OnOk result (IsCombineMade shapes.now plan.old plan.new ctx.now scope Sum part.now None dest) }
     ensures along { OnOk result (IsAlong plan.old plan.new ctx.now scope top Sum part.now None dest) }
-    ensures err { OnErr result (plan.new.steps ≡ plan.old.steps) }
-    ensures ranks { plan.new.ranks ≡ plan.old.ranks }
+    ensures kept { IsKept result plan.old plan.new }
 {
     combine(
         alloc,
@@ -139,14 +128,11 @@ pub fn igamx2d(
     requires world { AreOfOneWorld plan.old shapes.now ctx.now }
     requires arrays { AreThere shapes.now part.now rc }
     requires top { HasBranches top }
-    requires quiet { IsScopeOf ctx.now scope → IsQuiet plan.old (members ctx.now scope) }
-    ensures fault { IsAnswer result (combine_fault plan.old shapes.now ctx.now scope dest part.now rc) }
-    ensures ok { OnOk result (Appends shapes.now plan.old plan.new (combine_line ctx.now scope dest AbsMax part.now rc)) }
-    ensures counts { let n = length (members ctx.now scope) in let messages = combine_messages n dest in
-        OnOk result (Grows plan.old plan.new (combine_count n dest) messages (messages * (2 * (part.now.m * part.now.n)))) }
+    requires quiet { IsScopeQuiet plan.old ctx.now scope }
+    ensures fault { IsAnswer result (combine_fault (length plan.old.steps) shapes.now ctx.now scope dest part.now rc) }
+    ensures ok { OnOk result (IsCombineMade shapes.now plan.old plan.new ctx.now scope AbsMax part.now rc dest) }
     ensures along { OnOk result (IsAlong plan.old plan.new ctx.now scope top AbsMax part.now rc dest) }
-    ensures err { OnErr result (plan.new.steps ≡ plan.old.steps) }
-    ensures ranks { plan.new.ranks ≡ plan.old.ranks }
+    ensures kept { IsKept result plan.old plan.new }
 {
     combine(
         alloc,
@@ -177,14 +163,11 @@ pub fn igamn2d(
     requires world { AreOfOneWorld plan.old shapes.now ctx.now }
     requires arrays { AreThere shapes.now part.now rc }
     requires top { HasBranches top }
-    requires quiet { IsScopeOf ctx.now scope → IsQuiet plan.old (members ctx.now scope) }
-    ensures fault { IsAnswer result (combine_fault plan.old shapes.now ctx.now scope dest part.now rc) }
-    ensures ok { OnOk result (Appends shapes.now plan.old plan.new (combine_line ctx.now scope dest AbsMin part.now rc)) }
-    ensures counts { let n = length (members ctx.now scope) in let messages = combine_messages n dest in
-        OnOk result (Grows plan.old plan.new (combine_count n dest) messages (messages * (2 * (part.now.m * part.now.n)))) }
+    requires quiet { IsScopeQuiet plan.old ctx.now scope }
+    ensures fault { IsAnswer result (combine_fault (length plan.old.steps) shapes.now ctx.now scope dest part.now rc) }
+    ensures ok { OnOk result (IsCombineMade shapes.now plan.old plan.new ctx.now scope AbsMin part.now rc dest) }
     ensures along { OnOk result (IsAlong plan.old plan.new ctx.now scope top AbsMin part.now rc dest) }
-    ensures err { OnErr result (plan.new.steps ≡ plan.old.steps) }
-    ensures ranks { plan.new.ranks ≡ plan.old.ranks }
+    ensures kept { IsKept result plan.old plan.new }
 {
     combine(
         alloc,

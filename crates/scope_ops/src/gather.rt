@@ -130,7 +130,7 @@ pub(crate) fn push_gather(
     requires most { length members.now ≤ 64 }
     requires members { AreFree rank_steps members.now plan.old }
     requires top { HasBranches top }
-    ensures fault { IsAnswer result (many_fault plan.old (combine_count (length members.now) dest)) }
+    ensures fault { IsAnswer result (many_fault (length plan.old.steps) (combine_count (length members.now) dest)) }
     ensures ok { OnOk result (IsGathered plan.old plan.new top members.now root gather.now dest) }
     ensures err { OnErr result (plan.new.steps ≡ plan.old.steps) }
     ensures ranks { plan.new.ranks ≡ plan.old.ranks }

@@ -1,10 +1,12 @@
 //! Point to point. A User's Guide to the BLACS, IGESD2D, IGERV2D, ITRSD2D and ITRRV2D.
 
-ghost use Rattle.std.specs.Prelude.{◌≡◌, ◌<◌, OnOk, OnErr};
+ghost use Rattle.std.specs.Prelude.{◌<◌, length, OnOk};
+ghost use Rattle.msg_core.specs.Plans.{waiting_lens};
 ghost use Rattle.pack_words.specs.declared.shape.Shape.TheVariants.{Ge, Tr};
-ghost use Rattle.pack_words.specs.GridPlans.{Appends, Grows};
 ghost use Rattle.scope_ops.specs.Lines.{sent_line, received_line};
-ghost use Rattle.scope_ops.specs.Refusals.{AreOfOneWorld, IsAnswer, as_scope_err, send_fault, receive_fault, part_count};
+ghost use Rattle.pack_words.specs.GridState.{rank_steps};
+ghost use Rattle.scope_ops.specs.Calls.{IsMade, IsKept};
+ghost use Rattle.scope_ops.specs.Refusals.{AreOfOneWorld, IsAnswer, send_fault, receive_fault, part_count};
 ghost use Rattle.proc_grid.specs.Grid.{rank_of};
 
 use crate::part::Part;
@@ -28,11 +30,10 @@ fn send_part(
 ) -> Result<(), ScopeErr>
     requires world { AreOfOneWorld plan.old shapes.now ctx.now }
     requires array { part.now.array < shapes.now.count }
-    ensures fault { IsAnswer result (send_fault plan.old shapes.now ctx.now me part.now dest) }
-    ensures ok { OnOk result (Appends shapes.now plan.old plan.new (sent_line (rank_of ctx.now me) (rank_of ctx.now dest) shape part.now)) }
-    ensures counts { OnOk result (Grows plan.old plan.new 1 1 (part_count shape part.now)) }
-    ensures err { OnErr result (plan.new.steps ≡ plan.old.steps) }
-    ensures ranks { plan.new.ranks ≡ plan.old.ranks }
+    ensures fault { IsAnswer result (send_fault (length plan.old.steps) shapes.now ctx.now me part.now dest) }
+    ensures ok { OnOk result (IsMade shapes.now plan.old plan.new
+        (sent_line (rank_of ctx.now me) (rank_of ctx.now dest) shape part.now) 1 1 (part_count shape part.now)) }
+    ensures kept { IsKept result plan.old plan.new }
 {
     let (from, to) = match point(shapes, ctx, me, dest, part) {
         Ok(ranks) => ranks,
@@ -56,11 +57,10 @@ fn receive_part(
 ) -> Result<(), ScopeErr>
     requires world { AreOfOneWorld plan.old shapes.now ctx.now }
     requires array { part.now.array < shapes.now.count }
-    ensures fault { IsAnswer result (receive_fault plan.old shapes.now ctx.now me shape part.now src) }
-    ensures ok { OnOk result (Appends shapes.now plan.old plan.new (received_line (rank_of ctx.now src) (rank_of ctx.now me) shape part.now)) }
-    ensures counts { OnOk result (Grows plan.old plan.new 1 0 0) }
-    ensures err { OnErr result (plan.new.steps ≡ plan.old.steps) }
-    ensures ranks { plan.new.ranks ≡ plan.old.ranks }
+    ensures fault { IsAnswer result (receive_fault (length plan.old.steps) (waiting_lens rank_steps plan.old) shapes.now ctx.now me shape part.now src) }
+    ensures ok { OnOk result (IsMade shapes.now plan.old plan.new
+        (received_line (rank_of ctx.now src) (rank_of ctx.now me) shape part.now) 1 0 0) }
+    ensures kept { IsKept result plan.old plan.new }
 {
     let (to, from) = match point(shapes, ctx, me, src, part) {
         Ok(ranks) => ranks,
@@ -85,11 +85,10 @@ pub fn igesd2d(
 ) -> Result<(), ScopeErr>
     requires world { AreOfOneWorld plan.old shapes.now ctx.now }
     requires array { part.now.array < shapes.now.count }
-    ensures fault { IsAnswer result (send_fault plan.old shapes.now ctx.now me part.now dest) }
-    ensures ok { OnOk result (Appends shapes.now plan.old plan.new (sent_line (rank_of ctx.now me) (rank_of ctx.now dest) Ge part.now)) }
-    ensures counts { OnOk result (Grows plan.old plan.new 1 1 (part_count Ge part.now)) }
-    ensures err { OnErr result (plan.new.steps ≡ plan.old.steps) }
-    ensures ranks { plan.new.ranks ≡ plan.old.ranks }
+    ensures fault { IsAnswer result (send_fault (length plan.old.steps) shapes.now ctx.now me part.now dest) }
+    ensures ok { OnOk result (IsMade shapes.now plan.old plan.new
+        (sent_line (rank_of ctx.now me) (rank_of ctx.now dest) Ge part.now) 1 1 (part_count Ge part.now)) }
+    ensures kept { IsKept result plan.old plan.new }
 {
     send_part(plan, shapes, ctx, me, Shape::Ge, part, dest)
 }
@@ -107,11 +106,10 @@ pub fn igerv2d(
 ) -> Result<(), ScopeErr>
     requires world { AreOfOneWorld plan.old shapes.now ctx.now }
     requires array { part.now.array < shapes.now.count }
-    ensures fault { IsAnswer result (receive_fault plan.old shapes.now ctx.now me Ge part.now src) }
-    ensures ok { OnOk result (Appends shapes.now plan.old plan.new (received_line (rank_of ctx.now src) (rank_of ctx.now me) Ge part.now)) }
-    ensures counts { OnOk result (Grows plan.old plan.new 1 0 0) }
-    ensures err { OnErr result (plan.new.steps ≡ plan.old.steps) }
-    ensures ranks { plan.new.ranks ≡ plan.old.ranks }
+    ensures fault { IsAnswer result (receive_fault (length plan.old.steps) (waiting_lens rank_steps plan.old) shapes.now ctx.now me Ge part.now src) }
+    ensures ok { OnOk result (IsMade shapes.now plan.old plan.new
+        (received_line (rank_of ctx.now src) (rank_of ctx.now me) Ge part.now) 1 0 0) }
+    ensures kept { IsKept result plan.old plan.new }
 {
     receive_part(plan, shapes, ctx, me, Shape::Ge, part, src)
 }
@@ -130,11 +128,10 @@ pub fn itrsd2d(
 ) -> Result<(), ScopeErr>
     requires world { AreOfOneWorld plan.old shapes.now ctx.now }
     requires array { part.now.array < shapes.now.count }
-    ensures fault { IsAnswer result (send_fault plan.old shapes.now ctx.now me part.now dest) }
-    ensures ok { OnOk result (Appends shapes.now plan.old plan.new (sent_line (rank_of ctx.now me) (rank_of ctx.now dest) (Tr uplo diag) part.now)) }
-    ensures counts { OnOk result (Grows plan.old plan.new 1 1 (part_count (Tr uplo diag) part.now)) }
-    ensures err { OnErr result (plan.new.steps ≡ plan.old.steps) }
-    ensures ranks { plan.new.ranks ≡ plan.old.ranks }
+    ensures fault { IsAnswer result (send_fault (length plan.old.steps) shapes.now ctx.now me part.now dest) }
+    ensures ok { OnOk result (IsMade shapes.now plan.old plan.new
+        (sent_line (rank_of ctx.now me) (rank_of ctx.now dest) (Tr uplo diag) part.now) 1 1 (part_count (Tr uplo diag) part.now)) }
+    ensures kept { IsKept result plan.old plan.new }
 {
     send_part(plan, shapes, ctx, me, Shape::Tr(uplo, diag), part, dest)
 }
@@ -153,11 +150,10 @@ pub fn itrrv2d(
 ) -> Result<(), ScopeErr>
     requires world { AreOfOneWorld plan.old shapes.now ctx.now }
     requires array { part.now.array < shapes.now.count }
-    ensures fault { IsAnswer result (receive_fault plan.old shapes.now ctx.now me (Tr uplo diag) part.now src) }
-    ensures ok { OnOk result (Appends shapes.now plan.old plan.new (received_line (rank_of ctx.now src) (rank_of ctx.now me) (Tr uplo diag) part.now)) }
-    ensures counts { OnOk result (Grows plan.old plan.new 1 0 0) }
-    ensures err { OnErr result (plan.new.steps ≡ plan.old.steps) }
-    ensures ranks { plan.new.ranks ≡ plan.old.ranks }
+    ensures fault { IsAnswer result (receive_fault (length plan.old.steps) (waiting_lens rank_steps plan.old) shapes.now ctx.now me (Tr uplo diag) part.now src) }
+    ensures ok { OnOk result (IsMade shapes.now plan.old plan.new
+        (received_line (rank_of ctx.now src) (rank_of ctx.now me) (Tr uplo diag) part.now) 1 0 0) }
+    ensures kept { IsKept result plan.old plan.new }
 {
     receive_part(plan, shapes, ctx, me, Shape::Tr(uplo, diag), part, src)
 }

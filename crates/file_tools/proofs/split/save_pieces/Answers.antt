@@ -1,8 +1,7 @@
-use Rattle.std.proofs.Common.{◌≡◌, ℕ, ◌*◌, arith, ap, ◌∙◌}
+use Rattle.std.proofs.Common.{◌≡◌, ◌*◌, arith, ◌∙◌}
 use Rattle.mm_text.specs.Loading.{matrix_of}
 use Rattle.file_tools.specs.TargetView.{target_view}
 use Rattle.file_tools.specs.Lists.{texts_of}
-use Rattle.file_tools.specs.Outcome.{opened}
 use Rattle.file_tools.specs.SplitWalk.{name_of}
 use Rattle.file_tools.proofs.ListLemmas.{names_length, name_is}
 use Rattle.file_tools.proofs.SplitLaws.{saves_done, save_failed}
@@ -13,19 +12,14 @@ take_name-requires g c =
     let count = names_length c.args.target.now.prefix.now c.args.target.now.npcol _ c.args.pieces.names.items c.requires.names in
     omega (arith, count, c.loop-k-test.true)
 
-pub returns-in-Err-clause-follows : goal.returns-in-Err-clause-follows
-returns-in-Err-clause-follows g c =
+pub returns-in-Err : goal.returns-in-Err
+returns-in-Err g c =
     let name : c.take_name.result ≡ name_of (target_view c.args.target.now) c.loop-k.k
     = c.take_name.ensures ∙ name_is c.args.target.now.prefix.now c.args.target.now.npcol (c.args.target.now.nprow * c.args.target.now.npcol) c.loop-k.k (texts_of c.args.pieces.names.items) c.requires.names c.loop-k-test.true in
     save_failed (target_view c.args.target.now) (matrix_of c.args.whole.now) c.loop-k.k c.in-Err.field-0 c.take_name.result (g.S.Store.state c.args.store.now) (g.S.Store.state c.loop-k.store) (g.S.Store.state c.save_piece.new.store)
     c.loop-k-test.true name c.loop-k.invariant.told c.loop-k.invariant.files c.loop-k.invariant.opens c.loop-k.invariant.counts c.in-Err.ensures.saves c.save_piece.ensures.opens.opens c.in-Err.ensures.cause
 
-pub returns-clause-follows : goal.returns-clause-follows
-returns-clause-follows g c =
+pub returns : goal.returns
+returns g c =
     let all : c.loop-k.k ≡ c.args.target.now.nprow * c.args.target.now.npcol = omega (arith, c.loop-k-test.false, c.loop-k.auto.k-end) in
     saves_done (target_view c.args.target.now) (matrix_of c.args.whole.now) c.loop-k.k (g.S.Store.state c.args.store.now) (g.S.Store.state c.loop-k.store) all c.loop-k.invariant.files c.loop-k.invariant.opens c.loop-k.invariant.counts
-
-pub returns-clause-opens : goal.returns-clause-opens
-returns-clause-opens g c =
-    let all : c.loop-k.k ≡ c.args.target.now.nprow * c.args.target.now.npcol = omega (arith, c.loop-k-test.false, c.loop-k.auto.k-end) in
-    c.loop-k.invariant.opens ∙ ap (λ (n : ℕ). opened n (g.S.Store.state c.args.store.now).opens) all

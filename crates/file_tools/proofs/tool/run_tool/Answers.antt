@@ -1,22 +1,26 @@
-use Rattle.std.proofs.Common.{◌≡◌, arith}
+use Rattle.std.proofs.Common.{◌≡◌, ◌*◌, List, ℕ, [], ◌∷◌, ap, ap₂, arith}
 use Rattle.std.specs.Prelude.{Some, map, string_bytes}
 use Rattle.std.proofs.lemmas.Grind.{common_steps}
 use Rattle.tool_words.specs.CommandWords.{asked}
 use Rattle.tool_words.specs.declared.asked.Asked.TheVariants as asks
+use Rattle.file_tools.specs.Lists.{names_by}
+use Rattle.file_tools.specs.SplitWalk.{split_walk}
+use Rattle.file_tools.specs.JoinWalk.{join_walk}
 use Rattle.file_tools.specs.ToolWalk.{built}
-use Rattle.file_tools.proofs.ToolLaws.{split_ends, join_ends}
+use Rattle.file_tools.proofs.ToolLaws.{command_ends}
 use Rattle.file_tools.proofs.tool.run_tool.Goals as goal
 
 pub returns-in-Split-clause-outcome : goal.returns-in-Split-clause-outcome
 returns-in-Split-clause-outcome g c =
     let are : Some (asks.Split c.in-Split.input c.in-Split.output c.in-Split.p c.in-Split.q c.in-Split.mb c.in-Split.nb) ≡ asked built (map string_bytes c.args.words.now) = grind (arith, common_steps) in
-    split_ends c.run_split-done.result (map string_bytes c.args.words.now) c.in-Split.input c.in-Split.output c.file_named.result c.as_str.result.now c.in-Split.p c.in-Split.q c.in-Split.mb c.in-Split.nb c.report-in-Split.result
-    (g.S.Store.state c.args.store.now) (g.S.Store.state c.run_split-done.new.store) (g.O.Sink.state c.args.out.now) (g.E.Sink.state c.args.err.now) (g.E.Sink.state c.report-in-Split.new.err)
-    are c.file_named.ensures c.as_str.ensures.text c.report-in-Split.ensures.status c.run_split-done.ensures.follows c.report-in-Split.ensures.says c.report-in-Split.ensures.silent
+    command_ends c.run_split-done.result (map string_bytes c.args.words.now) _ _ _ c.report-in-Split.result (g.S.Store.state c.args.store.now) (g.S.Store.state c.run_split-done.new.store) (g.O.Sink.state c.args.out.now) (g.E.Sink.state c.args.err.now) (g.E.Sink.state c.report-in-Split.new.err) are
+    (ap₂ (λ (input prefix : List ℕ). split_walk input (record { prefix = prefix; nprow = c.in-Split.p; npcol = c.in-Split.q; mb = c.in-Split.mb; nb = c.in-Split.nb })) c.file_named.ensures c.as_str.ensures.text)
+    (ap (λ (prefix : List ℕ). names_by prefix c.in-Split.q (c.in-Split.p * c.in-Split.q)) c.as_str.ensures.text)
+    c.report-in-Split.ensures.status c.run_split-done.ensures c.report-in-Split.ensures.says c.report-in-Split.ensures.silent
 
 pub returns-in-Join-clause-outcome : goal.returns-in-Join-clause-outcome
 returns-in-Join-clause-outcome g c =
     let are : Some (asks.Join c.in-Join.prefix c.in-Join.output) ≡ asked built (map string_bytes c.args.words.now) = grind (arith, common_steps) in
-    join_ends c.run_join-done.result (map string_bytes c.args.words.now) c.in-Join.prefix c.in-Join.output c.as_str-in-Join.result.now c.file_named-in-Join.result c.report-in-Join.result
-    (g.S.Store.state c.args.store.now) (g.S.Store.state c.run_join-done.new.store) (g.O.Sink.state c.args.out.now) (g.E.Sink.state c.args.err.now) (g.E.Sink.state c.report-in-Join.new.err)
-    are c.as_str-in-Join.ensures.text c.file_named-in-Join.ensures c.report-in-Join.ensures.status c.run_join-done.ensures.follows c.report-in-Join.ensures.says c.report-in-Join.ensures.silent
+    command_ends c.run_join-done.result (map string_bytes c.args.words.now) _ _ _ c.report-in-Join.result (g.S.Store.state c.args.store.now) (g.S.Store.state c.run_join-done.new.store) (g.O.Sink.state c.args.out.now) (g.E.Sink.state c.args.err.now) (g.E.Sink.state c.report-in-Join.new.err) are
+    (ap₂ join_walk c.as_str-in-Join.ensures.text c.file_named-in-Join.ensures) (ap (λ (output : List ℕ). output ∷ []) c.file_named-in-Join.ensures)
+    c.report-in-Join.ensures.status c.run_join-done.ensures c.report-in-Join.ensures.says c.report-in-Join.ensures.silent

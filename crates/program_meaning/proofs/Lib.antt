@@ -1,0 +1,4 @@
+pub mod LineLaws
+pub mod Rows
+pub mod MoveCounts
+pub mod OperationLaws

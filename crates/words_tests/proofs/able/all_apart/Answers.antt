@@ -1,0 +1,14 @@
+-- One more region.
+use Rattle.std.specs.List.{AllByRecursion}
+use Rattle.std.proofs.Common.{arith, rules, subst, take}
+use Rattle.pack_words.specs.declared.region.Region.{Region}
+use Rattle.pack_words.specs.Packing.{no_region, AreApart}
+use Rattle.words_tests.proofs.Taking.{apart_take}
+use Rattle.words_tests.proofs.able.all_apart.Goals as goal
+
+pub loop-k-preserved : goal.loop-k-preserved
+loop-k-preserved c =
+    let regions = c.args.regions.now in
+    let k = c.loop-k.k in
+    let here : AllByRecursion (λ r. AreApart r c.at-region.result) (take k regions) = search rules in
+    apart_take regions k no_region (omega arith) c.loop-k.invariant (subst (λ (t : Region). AllByRecursion (λ r. AreApart r t) (take k regions)) c.at-region.ensures here)
