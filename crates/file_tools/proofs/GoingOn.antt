@@ -65,6 +65,7 @@ never_words (trouble.Matrix name error) e = cc
 never_words (trouble.Piece name line fault) e = cc
 never_words (trouble.TooMany words) e = cc
 never_words trouble.NoMemory e = cc
+never_words trouble.Output e = cc
 
 leaves_on : (s : Status) → (s ≡ status.Words → ⊥) → (w here : Walk) (names : List (List ℕ)) (line : List ℕ) (old mid new : Outside) (before after : Poured) → (IsTrue old.told → Comes w old.files here) → ReadsOn old mid → Leaves s here names line mid new before after → Leaves s w names line old new before after
 leaves_on status.Done other w here names line old mid new before after comes on then = record {
@@ -122,9 +123,12 @@ leaves_on status.Sink other w here names line old mid new before after comes on 
   line_is = then.line_is;
 }
 
+pub follows_by : {X : Type 0} (r : Result X Trouble) (w here : Walk) (names : List (List ℕ)) (old mid new : Outside) (before after : Poured) → (IsTrue old.told → Comes w old.files here) → ReadsOn old mid → Follows r here names mid new before after → Follows r w names old new before after
+follows_by (Ok x) w here names old mid new before after comes on then = leaves_on status.Done (λ e. cc) w here names [] old mid new before after comes on then
+follows_by (Err t) w here names old mid new before after comes on then = leaves_on (status_of t) (never_words t) w here names (line_of t) old mid new before after comes on then
+
 pub follows_on : {X : Type 0} (r : Result X Trouble) (w here : Walk) (names : List (List ℕ)) (old mid new : Outside) → (IsTrue old.told → Comes w old.files here) → ReadsOn old mid → ((pour : Poured) → Follows r here names mid new pour pour) → (pour : Poured) → Follows r w names old new pour pour
-follows_on (Ok x) w here names old mid new comes on then pour = leaves_on status.Done (λ e. cc) w here names [] old mid new pour pour comes on (then pour)
-follows_on (Err t) w here names old mid new comes on then pour = leaves_on (status_of t) (never_words t) w here names (line_of t) old mid new pour pour comes on (then pour)
+follows_on r w here names old mid new comes on then pour = follows_by r w here names old mid new pour pour comes on (then pour)
 
 -- want of memory, before anything was done
 pub wants_memory : (w : Walk) (names : List (List ℕ)) (old : Outside) → Stops trouble.NoMemory w names old old

@@ -11,6 +11,7 @@ pub mod LimitLaws
 pub mod TurnLaws
 pub mod PieceLists
 pub mod JoinLaws
+pub mod MoveLaws
 pub mod ToolLaws
 pub mod Completeness
 pub mod PartsLaws

@@ -37,6 +37,8 @@ large_stops words n next names old count lt pour = record {
 }
 
 -- a job within the limit goes on
-pub small_follows : {X : Type 0} (r : Result X Trouble) (words n : ℕ) (next : Walk) (names : List (List ℕ)) (old new : Outside) → words ≡ n → words ≤ 2 ^ 26 → ((pour : Poured) → Follows r next names old new pour pour)
-    → (pour : Poured) → Follows r (within_limit n next) names old new pour pour
-small_follows r words n next names old new count le then pour = subst (λ (w : Walk). Follows r w names old new pour pour) (sym (within n next (omega (arith, le, count)))) (then pour)
+pub small_by : {X : Type 0} (r : Result X Trouble) (words n : ℕ) (next : Walk) (names : List (List ℕ)) (old new : Outside) (before after : Poured) → words ≡ n → words ≤ 2 ^ 26 → Follows r next names old new before after → Follows r (within_limit n next) names old new before after
+small_by r words n next names old new before after count le then = subst (λ (w : Walk). Follows r w names old new before after) (sym (within n next (omega (arith, le, count)))) then
+
+pub small_follows : {X : Type 0} (r : Result X Trouble) (words n : ℕ) (next : Walk) (names : List (List ℕ)) (old new : Outside) → words ≡ n → words ≤ 2 ^ 26 → ((pour : Poured) → Follows r next names old new pour pour) → (pour : Poured) → Follows r (within_limit n next) names old new pour pour
+small_follows r words n next names old new count le then pour = small_by r words n next names old new pour pour count le (then pour)

@@ -25,7 +25,7 @@ cut_at [] k d lt = absurd (omega arith)
 cut_at (x ∷ xs) zero d lt = refl
 cut_at (x ∷ xs) (suc k) d lt = ap (λ (ys : List Save). x ∷ ys) (cut_at xs k d (omega arith))
 
-take_all : (xs : List Save) (n : ℕ) → n ≡ length xs → take n xs ≡ xs
+pub take_all : (xs : List Save) (n : ℕ) → n ≡ length xs → take n xs ≡ xs
 take_all [] zero e = refl
 take_all [] (suc n) e = refl
 take_all (x ∷ xs) zero e = absurd (omega arith)
@@ -86,9 +86,9 @@ fails_later old mid new same failed =
     record { faults = subst P same.faults failed.faults; misses = failed.misses ∙ same.misses }
 
 -- the store failed at this save
-pub save_failed : (saves : List Save) (names : List (List ℕ)) (k : ℕ) (s : Save) (old mid new : Outside) (pour : Poured) → map (λ t. t.name) saves ≡ names → k < length saves → get_or saves k s ≡ s → (IsTrue old.told → mid.files ≡ saved (take k saves) old.files) → mid.opens ≡ opened k old.opens → SameCounts old mid
-    → (IsTrue old.told → IsEither (new.files ≡ mid.files) (HoldsFront mid.files new.files s.name s.text)) → OneMore mid.opens new.opens → HasFailed mid new → StopsAtSave (Ends saves []) names (store_fault s.name) old new pour pour
-save_failed saves names k s old mid new pour named lt is before opens counts then one failed =
+pub save_failed : (saves : List Save) (output : List ℕ) (names : List (List ℕ)) (k : ℕ) (s : Save) (old mid new : Outside) (pour : Poured) → map (λ t. t.name) saves ≡ names → k < length saves → get_or saves k s ≡ s → (IsTrue old.told → mid.files ≡ saved (take k saves) old.files) → mid.opens ≡ opened k old.opens → SameCounts old mid
+    → (IsTrue old.told → IsEither (new.files ≡ mid.files) (HoldsFront mid.files new.files s.name s.text)) → OneMore mid.opens new.opens → HasFailed mid new → StopsAtSave (Ends saves output) names (store_fault s.name) old new pour pour
+save_failed saves output names k s old mid new pour named lt is before opens counts then one failed =
     let P : Files → Type 0 = λ files. IsEither (new.files ≡ files) (HoldsFront files new.files s.name s.text) in
     let cut : saves ≡ take k saves ++ s ∷ drop (suc k) saves = cut_at saves k s lt ∙ ap (λ (t : Save). take k saves ++ t ∷ drop (suc k) saves) is in
     record {
@@ -96,8 +96,8 @@ save_failed saves names k s old mid new pour named lt is before opens counts the
       name = s.name;
       text = s.text;
       later = drop (suc k) saves;
-      output = [];
-      ends = record { named = ap (λ (xs : List Save). map (λ t. t.name) xs) (sym cut) ∙ named; answered = λ told. ap (λ (xs : List Save). done xs []) cut };
+      output = output;
+      ends = record { named = ap (λ (xs : List Save). map (λ t. t.name) xs) (sym cut) ∙ named; answered = λ told. ap (λ (xs : List Save). done xs output) cut };
       files = λ told. subst P (before told) (then told);
       opens = after_one k old.opens mid.opens new.opens opens one ∙ ap (λ (n : ℕ). opened (suc n) old.opens) (sym (count_taken saves k (omega (arith, lt))));
       why = record { failed = fails_later old mid new counts failed; line_is = refl };
@@ -115,7 +115,7 @@ one_saved name text old new files one counts pour = saves_done (save name text �
 
 failed_alone : (e : StoreErr) (name text : List ℕ) (old new : Outside) → (IsTrue old.told → IsEither (new.files ≡ old.files) (HoldsFront old.files new.files name text)) → OneMore old.opens new.opens → SavesWhy e old new → Stops (trouble.Failed name) (Ends (save name text ∷ []) []) (name ∷ []) old new
 failed_alone e name text old new then one why pour =
-    inr (save_failed (save name text ∷ []) (name ∷ []) 0 (save name text) old old new pour refl (omega arith) refl (λ told. refl) (opened_none old.opens) (record { faults = refl; misses = refl }) then one (saves_failed e old new why))
+    inr (save_failed (save name text ∷ []) [] (name ∷ []) 0 (save name text) old old new pour refl (omega arith) refl (λ told. refl) (opened_none old.opens) (record { faults = refl; misses = refl }) then one (saves_failed e old new why))
 
 -- the name was lent
 pub one_failed : (e : StoreErr) (lent name text : List ℕ) (old new : Outside) → lent ≡ name → (IsTrue old.told → IsEither (new.files ≡ old.files) (HoldsFront old.files new.files lent text)) → OneMore old.opens new.opens → SavesWhy e old new → Stops (trouble.Failed name) (Ends (save name text ∷ []) []) (name ∷ []) old new

@@ -49,7 +49,7 @@ pub save_failed : (t : Target) (m : Matrix) (k : ℕ) (e : StoreErr) (name : Lis
     → (IsTrue mid.told → IsEither (new.files ≡ mid.files) (HoldsFront mid.files new.files (name_of t k) (text_of t m k))) → OneMore mid.opens new.opens → SavesWhy e mid new → Stops (trouble.Failed name) (Ends (saves_of t m) []) (piece_names t) old new
 save_failed t m k e name old mid new lt is told before opens counts then one why pour =
     let P : List ℕ → Type 0 = λ n. StopsAtSave (Ends (saves_of t m) []) (piece_names t) (store_fault n) old new pour pour in
-    inr (subst P (sym is) (saving.save_failed (saves_of t m) (piece_names t) k (save_of t m k) old mid new pour (names_are t m) (omega (arith, lt, many t m)) (at t m k lt) before opens counts (λ tells. then (subst IsTrue (sym told) tells)) one (saving.saves_failed e mid new why)))
+    inr (subst P (sym is) (saving.save_failed (saves_of t m) [] (piece_names t) k (save_of t m k) old mid new pour (names_are t m) (omega (arith, lt, many t m)) (at t m k lt) before opens counts (λ tells. then (subst IsTrue (sym told) tells)) one (saving.saves_failed e mid new why)))
 
 -- the same file under other words for its name and text
 pub saves_along : {X : Type 0} (result : Result X StoreErr) (before after : Files) (n k : List ℕ) (g h : Head) (l m : Matrix) → n ≡ k → g ≡ h → l ≡ m → Saves result before after n (piece_text g l) → Saves result before after k (piece_text h m)

@@ -32,23 +32,24 @@ not_done (trouble.Matrix name error) e = cc
 not_done (trouble.Piece name line fault) e = cc
 not_done (trouble.TooMany words) e = cc
 not_done trouble.NoMemory e = cc
+not_done trouble.Output e = cc
 
-asked_ends : (words : List (List ℕ)) (o : Option Asked) (s : Status) (old new : Outside) (pour quiet said : Poured) → o ≡ asked built words → IsOutcome s (asked_walk o) (names_asked o) old new pour pour quiet said → IsOutcome s (walk_of words) (saved_names words) old new pour pour quiet said
+asked_ends : (words : List (List ℕ)) (o : Option Asked) (s : Status) (old new : Outside) (before after quiet said : Poured) → o ≡ asked built words → IsOutcome s (asked_walk o) (names_asked o) old new before after quiet said → IsOutcome s (walk_of words) (saved_names words) old new before after quiet said
 unfolding walk_of saved_names
-asked_ends words o s old new pour quiet said e = subst (λ (p : Option Asked). IsOutcome s (asked_walk p) (names_asked p) old new pour pour quiet said) e
+asked_ends words o s old new before after quiet said e = subst (λ (p : Option Asked). IsOutcome s (asked_walk p) (names_asked p) old new before after quiet said) e
 
-leaves_in : {X : Type 0} (r : Result X Trouble) (w : Walk) (names : List (List ℕ)) (old new : Outside) (pour : Poured) → Follows r w names old new pour pour → Leaves (status_in r) w names (line_in r) old new pour pour
-leaves_in (Ok x) w names old new pour h = h
-leaves_in (Err t) w names old new pour h = h
+leaves_in : {X : Type 0} (r : Result X Trouble) (w : Walk) (names : List (List ℕ)) (old new : Outside) (before after : Poured) → Follows r w names old new before after → Leaves (status_in r) w names (line_in r) old new before after
+leaves_in (Ok x) w names old new before after h = h
+leaves_in (Err t) w names old new before after h = h
 
 -- a command that follows its walk
-pub command_ends : {X : Type 0} (r : Result X Trouble) (words : List (List ℕ)) (o : Option Asked) (w : Walk) (names : List (List ℕ)) (s : Status) (old new : Outside) (pour quiet said : Poured) → o ≡ asked built words → w ≡ asked_walk o → names ≡ names_asked o → s ≡ status_in r → ((p : Poured) → Follows r w names old new p p)
-    → (IsTrue quiet.told → Gains quiet said (line_in r)) → (s ≡ status.Done → said ≡ quiet) → IsOutcome s (walk_of words) (saved_names words) old new pour pour quiet said
-command_ends r words o w names s old new pour quiet said are walk named is follows says silent =
-    let P : Walk → Type 0 = λ v. Leaves s v names (line_in r) old new pour pour in
-    let Q : List (List ℕ) → Type 0 = λ ns. Leaves s (asked_walk o) ns (line_in r) old new pour pour in
-    let R : Status → Type 0 = λ t. Leaves t w names (line_in r) old new pour pour in
-    asked_ends words o s old new pour quiet said are (record { line = line_in r; leaves = subst Q named (subst P walk (subst R (sym is) (leaves_in r w names old new pour (follows pour)))); says = says; silent = silent })
+pub command_ends : {X : Type 0} (r : Result X Trouble) (words : List (List ℕ)) (o : Option Asked) (w : Walk) (names : List (List ℕ)) (s : Status) (old new : Outside) (before after quiet said : Poured) → o ≡ asked built words → w ≡ asked_walk o → names ≡ names_asked o → s ≡ status_in r → Follows r w names old new before after
+    → (IsTrue quiet.told → Gains quiet said (line_in r)) → (s ≡ status.Done → said ≡ quiet) → IsOutcome s (walk_of words) (saved_names words) old new before after quiet said
+command_ends r words o w names s old new before after quiet said are walk named is follows says silent =
+    let P : Walk → Type 0 = λ v. Leaves s v names (line_in r) old new before after in
+    let Q : List (List ℕ) → Type 0 = λ ns. Leaves s (asked_walk o) ns (line_in r) old new before after in
+    let R : Status → Type 0 = λ t. Leaves t w names (line_in r) old new before after in
+    asked_ends words o s old new before after quiet said are (record { line = line_in r; leaves = subst Q named (subst P walk (subst R (sym is) (leaves_in r w names old new before after follows))); says = says; silent = silent })
 
 usage_leaves : (names : List (List ℕ)) (old : Outside) (pour : Poured) → Leaves status.Words usage_walk names usage old old pour pour
 unfolding usage_walk
@@ -59,7 +60,7 @@ pub usage_ends : (words : List (List ℕ)) (o : Option Asked) (s : Status) (old 
 usage_ends words o s old pour quiet said are is outside says =
     let Q : Walk → Type 0 = λ w. Leaves status.Words w (names_asked o) usage old old pour pour in
     let R : Status → Type 0 = λ t. Leaves t (asked_walk o) (names_asked o) usage old old pour pour in
-    asked_ends words o s old old pour quiet said are (record { line = usage; leaves = subst R (sym outside) (subst Q (sym is) (usage_leaves (names_asked o) old pour)); says = says; silent = λ e. absurd (words_not_done s outside e) })
+    asked_ends words o s old old pour pour quiet said are (record { line = usage; leaves = subst R (sym outside) (subst Q (sym is) (usage_leaves (names_asked o) old pour)); says = says; silent = λ e. absurd (words_not_done s outside e) })
   where
     words_not_done : (s : Status) → s ≡ status.Words → s ≡ status.Done → ⊥
     words_not_done s e f = cc

@@ -33,5 +33,6 @@ pub mod Troubles
 pub mod TargetView
 pub mod SplitWalk
 pub mod JoinWalk
+pub mod MoveWalk
 pub mod ToolWalk
 pub mod ThereAndBack

@@ -39,4 +39,6 @@ output_fault = line [] (codes "output fault" ∷ [])
 
 -- the usage of the commands that are built
 unfoldable pub usage : List ℕ
-usage = ended (codes "usage: gridtool split IN OUT P Q MB NB") ++ ended (codes "       gridtool join PREFIX OUT")
+usage =
+    ended (codes "usage: gridtool split IN OUT P Q MB NB") ++ ended (codes "       gridtool join PREFIX OUT")
+    ++ ended (codes "       gridtool move PREFIX OUT P Q MB NB [--threads | --seed S]")

@@ -10,11 +10,12 @@ use Rattle.file_tools.specs.Texts.{usage}
 use Rattle.file_tools.specs.Walk.{Walk, Refuses}
 use Rattle.file_tools.specs.SplitWalk.{split_walk}
 use Rattle.file_tools.specs.JoinWalk.{join_walk}
+use Rattle.file_tools.specs.MoveWalk.{move_walk}
 use Rattle.file_tools.specs.declared.status.Status.TheVariants as status
 
 -- the commands that are built
 abbrev pub built : List Command
-built = command.Split ∷ command.Join ∷ []
+built = command.Split ∷ command.Join ∷ command.Move ∷ []
 
 -- words that ask for none of them
 unfoldable pub usage_walk : Walk
@@ -23,7 +24,7 @@ usage_walk = Refuses usage status.Words
 abbrev pub asked_walk : Option Asked → Walk
 asked_walk (Some (asks.Split input output p q mb nb)) = split_walk input (record { prefix = output; nprow = p; npcol = q; mb = mb; nb = nb })
 asked_walk (Some (asks.Join prefix output)) = join_walk prefix output
-asked_walk (Some (asks.Move prefix output p q mb nb how)) = usage_walk
+asked_walk (Some (asks.Move prefix output p q mb nb how)) = move_walk prefix (record { prefix = output; nprow = p; npcol = q; mb = mb; nb = nb })
 asked_walk (Some (asks.Check program)) = usage_walk
 asked_walk (Some (asks.Run program how)) = usage_walk
 asked_walk (Some (asks.Load seed size)) = usage_walk
@@ -33,7 +34,7 @@ asked_walk None = usage_walk
 abbrev pub names_asked : Option Asked → List (List ℕ)
 names_asked (Some (asks.Split input output p q mb nb)) = names_by output q (p * q)
 names_asked (Some (asks.Join prefix output)) = output ∷ []
-names_asked (Some (asks.Move prefix output p q mb nb how)) = []
+names_asked (Some (asks.Move prefix output p q mb nb how)) = names_by output q (p * q)
 names_asked (Some (asks.Check program)) = []
 names_asked (Some (asks.Run program how)) = []
 names_asked (Some (asks.Load seed size)) = []

@@ -4,6 +4,7 @@
 mod job;
 mod join;
 mod line;
+mod moves;
 mod reading;
 mod saving;
 mod split;

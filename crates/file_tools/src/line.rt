@@ -60,9 +60,9 @@ fn say_all<E: Sink>(err: &mut E, parts: &[Part<'_>]) -> Result<(), SinkErr>
     Ok(())
 }
 
-// Says these parts and ends the line.
+/// Says these parts and ends the line.
 #[tactic(auto, using(crate::proofs::SayingLemmas::says_then, crate::proofs::SayingLemmas::front_then, crate::proofs::SayingLemmas::front_more))]
-fn say_to_end<E: Sink>(err: &mut E, text: &[Part<'_>]) -> Result<(), SinkErr>
+pub(crate) fn say_to_end<E: Sink>(err: &mut E, text: &[Part<'_>]) -> Result<(), SinkErr>
     ensures says { IsTrue (E.state err.old).told →
         Says result (E.state err.old) (E.state err.new) (ended (joined (map part_text text.now))) }
     ensures tells { Tells result (E.state err.old) (E.state err.new) }

@@ -129,16 +129,16 @@ fn save_piece<S: Store>(
     write_cells(store, name_at(&pieces.names, k), &head, &piece)
 }
 
-// One of the names.
-fn name_at(names: &[String], k: u32) -> &str
+/// One of the names.
+pub(crate) fn name_at(names: &[String], k: u32) -> &str
     requires { k < length names.now }
     ensures { result.now ≡ slice_index_or (texts_of names.now) k [] }
 {
     names[k as usize].as_str()
 }
 
-// One of the names, to keep.
-fn take_name(mut names: Vec<String>, k: u32) -> Name
+/// One of the names, to keep.
+pub(crate) fn take_name(mut names: Vec<String>, k: u32) -> Name
     requires { k < length names.items }
     ensures { result ≡ slice_index_or (texts_of names.items) k [] }
 {

@@ -122,6 +122,7 @@ fn tell<E: Sink>(err: &mut E, trouble: &Trouble)
         Trouble::Piece(name, line, fault) => tell_piece(err, name.as_str(), *line, *fault),
         Trouble::TooMany(words) => tell_line(err, &[], &[Text("too many words: "), Words(*words)]),
         Trouble::NoMemory => tell_line(err, &[], &[Text("out of memory")]),
+        Trouble::Output => tell_line(err, &[], &[Text("output fault")]),
     }
 }
 
@@ -150,7 +151,7 @@ fn say_usage<E: Sink>(err: &mut E) -> Result<(), SinkErr>
 {
     say(
         err,
-        b"usage: gridtool split IN OUT P Q MB NB\n       gridtool join PREFIX OUT\n",
+        b"usage: gridtool split IN OUT P Q MB NB\n       gridtool join PREFIX OUT\n       gridtool move PREFIX OUT P Q MB NB [--threads | --seed S]\n",
     )
 }
 

@@ -9,6 +9,7 @@ ghost use Rattle.file_tools.specs.Outcome.{IsOutcome, IsComplete};
 ghost use Rattle.file_tools.specs.ThereAndBack.{SplitsAndJoins};
 
 use crate::join::run_join;
+use crate::moves::run_move;
 use crate::split::run_split;
 use crate::status::Status;
 use crate::target::Target;
@@ -17,13 +18,21 @@ use crate::trouble::Trouble;
 use piece_file::Name;
 use std::alloc::Global;
 use store_io::{Sink, Store};
-use tool_words::{Asked, Command, Word, read_words};
+use tool_words::{Asked, Command, How, Word, read_words};
 
 // The file that a word names.
 fn file_named(word: Word) -> Name
     ensures { result ≡ word }
 {
     Name::new(word.into_text().into_string())
+}
+
+// The seed of a run that is drawn; every other run goes in the plan's own order.
+fn seed_of(how: How) -> Option<u64> {
+    match how {
+        How::Seed(seed) => Some(seed),
+        _ => None,
+    }
 }
 
 // Reads the words, does their command, and tells of its trouble.
@@ -41,7 +50,11 @@ fn run_tool<S: Store, O: Sink, E: Sink>(
     ensures outside { asked built (map string_bytes words.now) ≡ None →
         IsEither (result ≡ Status.Words) (result ≡ Status.NoMemory) }
 {
-    let asked = match read_words(alloc, &[Command::Split, Command::Join], words) {
+    let asked = match read_words(
+        alloc,
+        &[Command::Split, Command::Join, Command::Move],
+        words,
+    ) {
         Ok(Some(asked)) => asked,
         Ok(None) => return report_usage(err),
         Err(error) => return report(err, Err(Trouble::from(error))),
@@ -69,7 +82,25 @@ fn run_tool<S: Store, O: Sink, E: Sink>(
             let done = run_join(alloc, store, prefix.as_str(), file_named(output));
             report(err, done)
         }
-        Asked::Move { .. } => report_usage(err),
+        Asked::Move {
+            prefix,
+            output,
+            p,
+            q,
+            mb,
+            nb,
+            how,
+        } => {
+            let target = Target {
+                prefix: output.as_str(),
+                nprow: p,
+                npcol: q,
+                mb,
+                nb,
+            };
+            let done = run_move(alloc, store, out, prefix.as_str(), &target, seed_of(how));
+            report(err, done)
+        }
         Asked::Check { .. } => report_usage(err),
         Asked::Run { .. } => report_usage(err),
         Asked::Load { .. } => report_usage(err),
@@ -79,7 +110,8 @@ fn run_tool<S: Store, O: Sink, E: Sink>(
 /// Does what the words ask for, over a store of files, an output and an error stream. The words are those of the command
 /// line without the program's name: `split IN OUT P Q MB NB` spreads the matrix of the file IN over a grid of P by Q
 /// processes in blocks of MB by NB, and writes the pieces `OUT.p.q`; `join PREFIX OUT` joins the pieces `PREFIX.p.q`, and
-/// writes the matrix file OUT. It never waits and always returns.
+/// writes the matrix file OUT; `move PREFIX OUT P Q MB NB` moves the pieces `PREFIX.p.q` to such a grid and blocks, writes
+/// them as `OUT.p.q`, and tells the numbers of meets, messages and copies on the output. It never waits and always returns.
 #[tactic(auto, using(spread_cells::proofs::SpreadLaws::by_home, spread_cells::proofs::BackLaws::joins_back, crate::proofs::Completeness::complete, crate::proofs::BackLaws::splits_and_joins))]
 pub fn plain_tool<S: Store, O: Sink, E: Sink>(
     alloc: Global,

@@ -25,6 +25,8 @@ pub(crate) enum Trouble {
     TooMany(u64),
     /// Memory was wanted.
     NoMemory,
+    /// The output failed.
+    Output,
 }
 
 impl Trouble {
@@ -49,6 +51,7 @@ impl Trouble {
             Trouble::Matrix(_, _) | Trouble::Piece(_, _, _) | Trouble::TooMany(_) =>
                 Status::Refused,
             Trouble::NoMemory => Status::NoMemory,
+            Trouble::Output => Status::Sink,
         }
     }
 }

@@ -1,4 +1,3 @@
 pub mod LineLaws
 pub mod Rows
-pub mod MoveCounts
 pub mod OperationLaws

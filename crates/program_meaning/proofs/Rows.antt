@@ -10,6 +10,7 @@ use Rattle.proc_grid.specs.declared.grid_err.GridErr.TheVariants as grid_err
 use Rattle.route_tree.specs.declared.top.Top.TheVariants.{I, H}
 use Rattle.descriptor.specs.Bounds.{is_outside, starts_outside, some_below, has_bad_lld, lacks_grid}
 use Rattle.descriptor.specs.Entries.{extent_entries, desc_entries, start_entries, matrix_entries, common_entries, is_bad_uplo, is_bad_diag}
+use Rattle.mm_grammar.specs.Matrix.{Matrix as Cells}
 use Rattle.pack_words.specs.LocalCells.{LocalCells}
 use Rattle.pack_words.specs.Parts.{selected_elements, part_spots}
 use Rattle.fold_ops.specs.FoldOf.{sum_of, greatest_of, least_of}
@@ -19,14 +20,14 @@ use Rattle.scope_ops.specs.declared.scope_err.ScopeErr.TheVariants as scope_err
 use Rattle.mr2d.specs.Moves.{moved_for}
 use Rattle.grid_lang.specs.declared.line.Area.{Area}
 use Rattle.grid_lang.specs.declared.line.Line.{Line}
-use Rattle.grid_lang.specs.declared.line.Line.TheVariants.{Ranks, Grid, Map, Array, Matrix, Fill, Send, Recv, Bcast, Sum, Amx, Amn, Barrier, Gemr2d, Trmr2d, PrintMatrix}
+use Rattle.grid_lang.specs.declared.line.Line.TheVariants.{Load, Ranks, Grid, Map, Array, Matrix, Fill, Send, Recv, Bcast, Sum, Amx, Amn, Barrier, Gemr2d, Trmr2d, PrintMatrix}
 use Rattle.grid_lang.specs.declared.line.Numbered.{Numbered}
 use Rattle.program_meaning.specs.declared.fault.ExecFault.{ExecFault}
 use Rattle.program_meaning.specs.declared.fault.ExecFault.TheVariants as fault
 use Rattle.program_meaning.specs.ProgramState.{ProgramState}
 use Rattle.program_meaning.specs.Filling.{with_written}
 use Rattle.program_meaning.specs.Declarations.{with_array, spread_of}
-use Rattle.program_meaning.specs.MoveNumbers.{move_messages, move_copies, move_words}
+use Rattle.move_numbers.specs.MoveNumbers.{move_messages, move_copies, move_words}
 use Rattle.program_meaning.specs.Exchanges.{send_exchange, receive_exchange, broadcast_exchange, combine_exchange, barrier_exchange, move_exchange}
 use Rattle.program_meaning.specs.Programs.{line_done, program_done, no_loads}
 
@@ -212,3 +213,20 @@ at_the_limit = refl
 above_the_limit : checked (Ranks 64 ∷ Matrix [] 1024 1024 ∷ Grid R 1 2 ∷ Barrier 0 All ∷ Matrix [] 1 1 ∷ []) ≡ fails 5 (fault.TooLarge 67108928)
 unfolding program_done line_done with_array barrier_exchange
 above_the_limit = refl
+
+-- ---- files
+
+-- a file of 2 by 2 into an array whose leading dimension is 3: padding stays, and 3 by 2 is another size
+abbrev held : Cells
+held = record { rows = 2; columns = 2; values = pos 1 ∷ pos 2 ∷ pos 3 ∷ pos 4 ∷ [] }
+
+abbrev loaded : ℤ → Result ProgramState (Refusal ExecFault)
+loaded rows = program_done (λ file. Some held) (numbered 1 (Ranks 1 ∷ Grid R 1 1 ∷ Array [] 0 rows (pos 2) (pos 3) (pos 2) (pos 0) (pos 0) (Some (pos 3)) ∷ Fill 0 (pos 0) (pos 0) (pos 0) (pos 7) ∷ Load 0 [] ∷ []))
+
+loaded_words : arrays_of (loaded (pos 2)) ≡ (cells 3 2 (pos 1 ∷ pos 2 ∷ pos 7 ∷ pos 3 ∷ pos 4 ∷ pos 7 ∷ []) ∷ []) ∷ []
+unfolding program_done line_done with_array with_written spread_of int_wrap below first_of is_outside
+loaded_words = refl
+
+other_size : numbers_of (loaded (pos 3)) ≡ fails 5 (fault.Size 2 2 3 2)
+unfolding program_done line_done with_array with_written spread_of int_wrap below first_of is_outside
+other_size = refl

@@ -32,7 +32,7 @@ use Rattle.grid_lang.specs.declared.line.Mr.{Mr}
 use Rattle.program_meaning.specs.declared.fault.ExecFault.{ExecFault}
 use Rattle.program_meaning.specs.declared.fault.ExecFault.TheVariants as fault
 use Rattle.program_meaning.specs.ProgramState.{ProgramState, grid_at, spread_at, large_fault}
-use Rattle.program_meaning.specs.MoveNumbers.{move_messages, move_copies, move_words}
+use Rattle.move_numbers.specs.MoveNumbers.{move_messages, move_copies, move_words}
 
 -- What a line says, before it is known whether it is done.
 pub record Exchange : Type 0 where

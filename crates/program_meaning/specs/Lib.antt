@@ -1,7 +1,6 @@
 pub mod ProgramState
 pub mod Filling
 pub mod Declarations
-pub mod MoveNumbers
 pub mod Exchanges
 pub mod Programs
 pub mod Laws

@@ -4,7 +4,7 @@ use descriptor::Info;
 use proc_grid::GridErr;
 use scope_ops::ScopeErr;
 
-/// Why a line of a program is refused. No want of memory is one.
+/// Why a line of a program is refused. Out of memory is none of them.
 #[derive(Clone, Copy, Debug, PartialEq, Eq)]
 pub enum ExecFault {
     /// GRID or MAP: the grid's.

@@ -6,6 +6,8 @@ mod devices;
 #[cfg(test)]
 mod joins;
 #[cfg(test)]
+mod moves;
+#[cfg(test)]
 mod running;
 #[cfg(test)]
 mod tools;

@@ -1,0 +1,28 @@
+use Rattle.std.proofs.Common.{◌≡◌, ◌+◌, ◌≤◌, ◌^◌, ℕ, List, None, Some, length, sym, ap, subst, ◌∙◌}
+use Rattle.std.specs.Prelude.{IfOk}
+use Rattle.std.specs.List.{AllByRecursion}
+use Rattle.pack_words.specs.GridShapes.{IsSize}
+use Rattle.program_meaning.specs.ProgramState.{large_fault}
+use Rattle.program_meaning.specs.Declarations.{words_in}
+use Rattle.grid_exec.specs.ArrayLines.{words_of}
+use Rattle.grid_exec.specs.Standing.{HasArrayMore}
+use Rattle.grid_exec.proofs.ArraySizes.{all_sizes}
+use Rattle.grid_exec.proofs.ArrayDone.{array_ready, measured_long, few_by, part_few}
+use Rattle.grid_exec.proofs.array_line.declare_array.Goals as goal
+
+pub with_array-requires-clause-whole : goal.with_array-requires-clause-whole
+with_array-requires-clause-whole c = ap length c.deref.ensures.value ∙ measured_long c.args.declared.contexts c.args.declared.shapes.ranks (words_of c.args.line.now) c.in-Ok.m.spread c.in-Ok.m.sizes.items c.in-Ok.m.words c.in-Ok.ensures.ok
+
+pub with_array-requires-clause-each : goal.with_array-requires-clause-each
+with_array-requires-clause-each c =
+    let area : c.in-Ok.m.words ≤ 2 ^ 26 = part_few c.args.declared.words c.words.result c.in-Ok.m.words c.in-Some.words c.in-Some.ensures (few_by c.in-Some.words c.in_default-counted.ensures) in
+    let same = c.in-Ok.ensures.ok.words_are in
+    let few : words_in c.in-Ok.m.sizes.items ≤ 2 ^ 26 = subst (λ n. n ≤ 2 ^ 26) same area in
+    subst (AllByRecursion IsSize) (sym c.deref.ensures.value) (all_sizes c.in-Ok.m.sizes.items few c.in-Ok.ensures.ok.leads)
+
+pub returns-clause-done : goal.returns-clause-done
+returns-clause-done c = λ state is exact.
+    array_ready c.args.declared c.args.plan.now state (words_of c.args.line.now) c.in-Ok.m.spread c.in-Ok.m.sizes.items c.in-Ok.m.words c.with_array.result c.in-Ok.ensures.ok is exact
+    (subst (λ n. large_fault n ≡ None) (c.in-Some.ensures ∙ ap (λ n. c.args.declared.words + n + c.in-Ok.m.words) c.words.ensures) c.in_default-counted.ensures)
+    (subst (λ (xs : List (ℕ × ℕ)). IfOk c.with_array.result (λ after. HasArrayMore c.args.declared after (Some c.in-Ok.m.spread) xs)) c.deref.ensures.value c.with_array.ensures.ok)
+    c.with_array.ensures.err

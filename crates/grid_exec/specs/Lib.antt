@@ -1,0 +1,10 @@
+pub mod Halts
+pub mod Sound
+pub mod Exact
+pub mod Standing
+pub mod Waits
+pub mod Moving
+pub mod Checking
+pub mod LineKinds
+pub mod Maps
+pub mod ArrayLines

@@ -1,0 +1,4 @@
+pub mod MoveLaws
+pub mod FileLaws
+pub mod EndLaws
+pub mod StartLaws

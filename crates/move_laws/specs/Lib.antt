@@ -1,0 +1,3 @@
+pub mod WholeMoves
+pub mod Ends
+pub mod Starts

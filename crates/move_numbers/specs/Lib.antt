@@ -1,0 +1,3 @@
+pub use Rattle.mr2d.specs.Moves
+pub use Rattle.mr2d.specs.Plans
+pub mod MoveNumbers

@@ -1,0 +1,9 @@
+pub mod ListLaws
+pub mod TurnLaws
+pub mod CallLaws
+pub mod RunLaws
+pub mod MeetCounts
+pub mod WordBound
+pub mod PlannedLaws
+pub mod WordCounts
+pub mod MovedLaws

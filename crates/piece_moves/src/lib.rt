@@ -1,0 +1,15 @@
+//! The pieces of a matrix, moved to another distribution.
+#![tactic(auto)]
+
+mod arguments;
+mod arrays;
+mod distribution;
+mod grids;
+mod heads;
+mod moving;
+mod sizes;
+mod words;
+
+pub use distribution::Distribution;
+pub use moving::{MovedPieces, move_pieces};
+pub use words::words_of_move;

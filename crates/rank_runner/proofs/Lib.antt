@@ -1,0 +1,9 @@
+pub mod Capacities
+pub mod Dealing
+pub mod Each
+pub mod Fates
+pub mod Said
+pub mod Stacking
+pub mod Steps
+pub mod Tasking
+pub mod Whole

@@ -1,0 +1,9 @@
+pub mod Capacity
+pub mod Dealing
+pub mod Ends
+pub mod Outfits
+pub mod Posts
+pub mod Seats
+pub mod Stacks
+pub mod Stands
+pub mod Tasks
