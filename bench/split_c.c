@@ -6,6 +6,7 @@
  *   split_c join  PREFIX OUT
  *   split_c move  PREFIX OUT P Q MB NB
  *   split_c gen   FILE M N SEED          a general file of random i32
+ *   split_c fill  PREFIX M N A B C       A + B*i + C*j on 4 by 4 in blocks of 64, moved to 2 by 8 in blocks of 32, written
  *   split_c mem   M N P Q MB NB P2 Q2 MB2 NB2 REPS    memcpy, element move, run move; no files
  *   split_c load  SEED SIZE              as gridtool's load, without the plan
  */
@@ -274,6 +275,19 @@ int main(int argc, char **argv)
         Side a = read_pieces(argv[2], &m, &n), b = side(m, n, atoi(argv[4]), atoi(argv[5]), atoi(argv[6]), atoi(argv[7]));
         move_runs(m, n, &a, &b);
         write_pieces(argv[3], m, n, &b);
+    } else if (!strcmp(c, "fill") && argc == 8) {
+        int m = atoi(argv[3]), n = atoi(argv[4]), fa = atoi(argv[5]), fb = atoi(argv[6]), fc = atoi(argv[7]);
+        Side a = side(m, n, 4, 4, 64, 64), b = side(m, n, 2, 8, 32, 32);
+        for (int k = 0; k < 16; k++) {
+            int lr = numroc(m, 64, k / 4, 0, 4), lc = numroc(n, 64, k % 4, 0, 4);
+            for (int lj = 0; lj < lc; lj++) {
+                uint32_t col = (uint32_t)fa + (uint32_t)fc * (uint32_t)((lj / 64 * 4 + k % 4) * 64 + lj % 64);
+                int *w = a.v[k] + (size_t)lj * a.lld[k];
+                for (int li = 0; li < lr; li++) w[li] = (int)(col + (uint32_t)fb * (uint32_t)((li / 64 * 4 + k / 4) * 64 + li % 64));
+            }
+        }
+        move_runs(m, n, &a, &b);
+        write_pieces(argv[2], m, n, &b);
     } else if (!strcmp(c, "gen") && argc == 6) {
         int m = atoi(argv[3]), n = atoi(argv[4]);
         uint64_t x = strtoull(argv[5], NULL, 10);

@@ -38,7 +38,7 @@ pub struct Moved {
 }
 
 /// Why a move is refused, in the order of the tests: a bad argument, one array as source and target, more operations
-/// than a plan has, and want of memory.
+/// than a plan has, and out of memory.
 #[derive(Clone, Copy, Debug, PartialEq, Eq)]
 pub enum MrErr {
     Info(Info),

@@ -19,17 +19,19 @@ use Rattle.spread_cells.proofs.BackLaws.{joins_back}
 use Rattle.piece_grammar.specs.Head.{Piece}
 use Rattle.tool_words.specs.Within.{IsTarget}
 use Rattle.file_tools.specs.Target.{Target}
-use Rattle.file_tools.specs.Answer.{save, saved, done}
-use Rattle.file_tools.specs.Walk as walk
-use Rattle.file_tools.specs.Walk.{Walk, Ends, answer}
-use Rattle.file_tools.specs.ReadingWalks.{with_matrix, matrix_walk, pieces_walk}
+use Rattle.save_list.specs.Save.{save, saved}
+use Rattle.command_walks.specs.Answer.{done}
+use Rattle.command_walks.specs.Walk as walk
+use Rattle.command_walks.specs.Walk.{Walk, answer}
+use Rattle.command_walks.specs.ReadingWalks.{with_matrix, matrix_walk, pieces_walk}
 use Rattle.file_tools.specs.SplitWalk.{layout_of, words_before, job_words, saves_of, job_walk, split_walk}
-use Rattle.file_tools.specs.JoinWalk.{array_of, whole_of, join_words, whole_walk, join_walk}
+use Rattle.piece_moves.specs.PieceMove.{array_of}
+use Rattle.file_tools.specs.JoinWalk.{whole_of, join_words, whole_walk, join_walk}
 use Rattle.file_tools.specs.ThereAndBack.{GivesBack, SplitsAndJoins}
-use Rattle.file_tools.proofs.WalkLaws.{comes_answer}
-use Rattle.file_tools.proofs.GatheringLaws.{pieces_come}
+use Rattle.command_walks.proofs.WalkLaws.{comes_answer}
+use Rattle.command_walks.proofs.GatheringLaws.{pieces_come}
 use Rattle.file_tools.proofs.SplitPieces.{piece_of, pieces_from, words_are, gathered}
-use Rattle.file_tools.proofs.LimitLaws.{within}
+use Rattle.command_walks.proofs.LimitLaws.{within}
 
 -- ---- there
 

@@ -12,7 +12,8 @@ use Rattle.piece_grammar.specs.Pieces as pieces
 use Rattle.piece_file.specs.PieceView.{piece_view}
 use Rattle.piece_file.specs.Gathering.{AreTurns}
 use Rattle.piece_file.specs.declared.piece.Piece.{Piece as Held}
-use Rattle.file_tools.specs.JoinWalk.{array_of, layout_by, whole_of, join_words}
+use Rattle.piece_moves.specs.PieceMove.{array_of}
+use Rattle.file_tools.specs.JoinWalk.{layout_by, whole_of, join_words}
 use Rattle.file_tools.proofs.TurnLaws.{turns_hold}
 
 -- the words that were counted are those of the join

@@ -12,7 +12,7 @@ use Rattle.store_io.proofs.FilesLemmas.{get_inserted, get_same, same_name}
 use Rattle.mm_grammar.specs.Matrix.{Matrix}
 use Rattle.tool_words.specs.Within.{IsTarget}
 use Rattle.file_tools.specs.Target.{Target}
-use Rattle.file_tools.specs.Answer.{Save, saved}
+use Rattle.save_list.specs.Save.{Save, saved}
 use Rattle.file_tools.specs.SplitWalk.{name_of, text_of, save_of, saves_of}
 use Rattle.file_tools.proofs.PieceNames.{same_piece}
 
@@ -57,5 +57,4 @@ held_from t m k a (suc c) files is from lt le = by (cases_lt a k) (λ l. held_fr
 
 -- Each piece stands under its name.
 pub piece_held : (t : Target) (m : Matrix) (k : ℕ) (files : Files) → IsTarget t.nprow t.npcol t.mb t.nb → k < t.nprow * t.npcol → get (saved (saves_of t m) files) (name_of t k) ≡ Some (text_of t m k)
-unfolding saves_of
 piece_held t m k files is lt = held_from t m k 0 (t.nprow * t.npcol) files is (omega arith) (omega arith) (omega arith)

@@ -1,55 +1,31 @@
 -- What a split saves.
-use Rattle.std.proofs.Common.{◌≡◌, ℕ, ◌+◌, ◌*◌, ◌<◌, IsTrue, List, [], ◌∷◌, length, get_or, take, refl, sym, ap, subst, inr, arith}
-use Rattle.std.specs.Prelude.{Result, map}
+use Rattle.std.proofs.Common.{◌≡◌, ℕ, ◌*◌, List, refl, ap, subst, ◌∙◌}
+use Rattle.std.specs.Prelude.{Result}
 use Rattle.std.specs.List.{range_with_len}
-use Rattle.std.specs.FinMap.{insert}
-use Rattle.std.proofs.lemmas.List.FromFn.{length-map-range_with_len, get_or-map-range_with_len}
-use Rattle.store_io.specs.Outside.{Outside, Files, Poured, SameCounts, OneMore, IsEither}
-use Rattle.text_io.specs.Saving.{HoldsFront, Saves, SavesWhy}
+use Rattle.store_io.specs.Outside.{Files}
 use Rattle.store_io.specs.declared.store.StoreErr.{StoreErr}
+use Rattle.text_io.specs.Saving.{Saves}
 use Rattle.mm_grammar.specs.Matrix.{Matrix}
+use Rattle.mm_text.specs.Loading.{matrix_of}
+use Rattle.mm_text.specs.declared.cells.Whole.{Whole}
 use Rattle.piece_grammar.specs.Head.{Head}
 use Rattle.piece_grammar.specs.PlainPiece.{piece_text}
-use Rattle.file_tools.specs.Answer.{saved}
-use Rattle.file_tools.specs.Texts.{store_fault}
-use Rattle.file_tools.specs.Target.{Target}
-use Rattle.file_tools.specs.Walk.{Ends}
-use Rattle.file_tools.specs.SplitWalk.{name_of, piece_names, text_of, save_of, saves_of}
-use Rattle.file_tools.specs.Outcome.{IsDone, StopsAtSave, opened}
-use Rattle.file_tools.specs.Troubles.{Stops}
-use Rattle.file_tools.specs.declared.trouble.Trouble.TheVariants as trouble
-use Rattle.file_tools.proofs.SavingLaws as saving
+use Rattle.save_list.specs.Save.{names_of}
+use Rattle.save_list.proofs.SavedLaws.{names_by}
+use Rattle.file_tools.specs.Target as target
+use Rattle.file_tools.specs.TargetView.{target_view}
+use Rattle.file_tools.specs.declared.target.Target.{Target}
+use Rattle.file_tools.specs.SplitWalk.{name_of, piece_names, save_of, saves_of}
 
-many : (t : Target) (m : Matrix) → length (saves_of t m) ≡ t.nprow * t.npcol
-unfolding saves_of
-many t m = length-map-range_with_len (save_of t m) 0 (t.nprow * t.npcol)
+pub names_are : (t : target.Target) (m : Matrix) → names_of (saves_of t m) ≡ piece_names t
+names_are t m = names_by (save_of t m) (name_of t) (range_with_len 0 (t.nprow * t.npcol)) (λ k. refl)
 
-at : (t : Target) (m : Matrix) (k : ℕ) → k < t.nprow * t.npcol → get_or (saves_of t m) k (save_of t m k) ≡ save_of t m k
-unfolding saves_of
-at t m k lt = get_or-map-range_with_len (save_of t m) 0 (t.nprow * t.npcol) k k (save_of t m k) lt (omega arith)
+-- the saves of the same target and matrix
+pub saves_as : (s t : Target) (v w : Whole) → s ≡ t → v ≡ w → saves_of (target_view s) (matrix_of v) ≡ saves_of (target_view t) (matrix_of w)
+saves_as s t v w e f = ap (λ (x : Target). saves_of (target_view x) (matrix_of v)) e ∙ ap (λ (x : Whole). saves_of (target_view t) (matrix_of x)) f
 
-names_along : (t : Target) (m : Matrix) (ks : List ℕ) → map (λ s. s.name) (map (save_of t m) ks) ≡ map (name_of t) ks
-names_along t m [] = refl
-names_along t m (k ∷ ks) = ap (λ (ns : List (List ℕ)). name_of t k ∷ ns) (names_along t m ks)
-
-names_are : (t : Target) (m : Matrix) → map (λ s. s.name) (saves_of t m) ≡ piece_names t
-unfolding saves_of
-names_are t m = names_along t m (range_with_len 0 (t.nprow * t.npcol))
-
-pub saved_none : (t : Target) (m : Matrix) (files : Files) → files ≡ saved (take 0 (saves_of t m)) files
-saved_none t m files = refl
-
-pub saved_next : (t : Target) (m : Matrix) (k : ℕ) (old mid new : Files) → k < t.nprow * t.npcol → mid ≡ saved (take k (saves_of t m)) old → new ≡ insert mid (name_of t k) (text_of t m k) → new ≡ saved (take (k + 1) (saves_of t m)) old
-saved_next t m k old mid new lt before then = saving.saved_next (saves_of t m) k (save_of t m k) old mid new (omega (arith, lt, many t m)) (at t m k lt) before then
-
-pub saves_done : (t : Target) (m : Matrix) (k : ℕ) (old new : Outside) → k ≡ t.nprow * t.npcol → (IsTrue old.told → new.files ≡ saved (take k (saves_of t m)) old.files) → new.opens ≡ opened k old.opens → SameCounts old new → (pour : Poured) → IsDone (Ends (saves_of t m) []) (piece_names t) [] old new pour pour
-saves_done t m k old new all files opens counts pour = saving.saves_done (saves_of t m) (piece_names t) k old new pour (names_are t m) (omega (arith, all, many t m)) files opens counts
-
-pub save_failed : (t : Target) (m : Matrix) (k : ℕ) (e : StoreErr) (name : List ℕ) (old mid new : Outside) → k < t.nprow * t.npcol → name ≡ name_of t k → mid.told ≡ old.told → (IsTrue old.told → mid.files ≡ saved (take k (saves_of t m)) old.files) → mid.opens ≡ opened k old.opens → SameCounts old mid
-    → (IsTrue mid.told → IsEither (new.files ≡ mid.files) (HoldsFront mid.files new.files (name_of t k) (text_of t m k))) → OneMore mid.opens new.opens → SavesWhy e mid new → Stops (trouble.Failed name) (Ends (saves_of t m) []) (piece_names t) old new
-save_failed t m k e name old mid new lt is told before opens counts then one why pour =
-    let P : List ℕ → Type 0 = λ n. StopsAtSave (Ends (saves_of t m) []) (piece_names t) (store_fault n) old new pour pour in
-    inr (subst P (sym is) (saving.save_failed (saves_of t m) [] (piece_names t) k (save_of t m k) old mid new pour (names_are t m) (omega (arith, lt, many t m)) (at t m k lt) before opens counts (λ tells. then (subst IsTrue (sym told) tells)) one (saving.saves_failed e mid new why)))
+pub names_as : (s t : Target) (m : Matrix) → s ≡ t → names_of (saves_of (target_view s) m) ≡ piece_names (target_view t)
+names_as s t m e = names_are (target_view s) m ∙ ap (λ (x : Target). piece_names (target_view x)) e
 
 -- the same file under other words for its name and text
 pub saves_along : {X : Type 0} (result : Result X StoreErr) (before after : Files) (n k : List ℕ) (g h : Head) (l m : Matrix) → n ≡ k → g ≡ h → l ≡ m → Saves result before after n (piece_text g l) → Saves result before after k (piece_text h m)

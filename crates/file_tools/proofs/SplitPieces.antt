@@ -1,8 +1,10 @@
 -- The pieces of a split are pieces of their files, each at its turn.
-use Rattle.std.proofs.Common.{◌≡◌, ℕ, zero, suc, ◌+◌, ◌-◌, ◌*◌, ◌/◌, ◌%◌, ◌^◌, ◌<◌, ◌≤◌, max, true, ℤ, pos, List, [], ◌∷◌, length, get_or, Option, Some, None, refl, sym, ap, ap₂, subst, ◌∙◌, arith}
-use Rattle.std.specs.Prelude.{map, slice_get}
+use Rattle.std.proofs.Common.{◌≡◌, ℕ, zero, suc, ◌+◌, ◌-◌, ◌*◌, ◌/◌, ◌%◌, ◌^◌, ◌<◌, ◌≤◌, max, true, ℤ, pos, List, [], ◌∷◌, ◌++◌, length, get_or, Option, Some, None, refl, sym, ap, ap₂, subst, ◌∙◌, arith}
+use Rattle.std.specs.Prelude.{map, slice_get, sum}
+use Rattle.std.proofs.lemmas.List.{map-append}
+use Rattle.std.proofs.lemmas.List.Sums.{sum_by_push}
 use Rattle.std.specs.List.{range_with_len, AllByRecursion}
-use Rattle.std.proofs.Math.Nat.{zero-div, mod-eq_of_lt, mod-lt, le-mul_of_pos_right}
+use Rattle.std.proofs.Math.Nat.{zero-div, mod-eq_of_lt}
 use Rattle.std.proofs.lemmas.List.FromFn.{length-map-range_with_len, map-range_with_len_more}
 use Rattle.store_io.specs.Outside.{Files}
 use Rattle.index_tools.specs.Home.{row_spread, column_spread}
@@ -16,19 +18,18 @@ use Rattle.piece_grammar.specs.Head as grammar
 use Rattle.piece_grammar.specs.Head.{Piece, IsHead}
 use Rattle.piece_grammar.specs.Turn.{HasTurn}
 use Rattle.piece_grammar.specs.Pieces as pieces
-use Rattle.piece_grammar.specs.Pieces.{turn_behind, HoldsPiece, AreHeldBehind, AreAll, IsGathered, Whole}
+use Rattle.piece_grammar.specs.Pieces.{turn_behind, HoldsPiece, AreHeldBehind, IsGathered, Whole}
 use Rattle.piece_grammar.specs.PlainPiece.{piece_name, piece_text}
 use Rattle.piece_grammar.specs.PieceText.{IsPieceText}
 use Rattle.piece_grammar.proofs.PlainPieceLaws.{reads_back}
 use Rattle.piece_file.specs.Gathering.{held_in}
 use Rattle.tool_words.specs.Within.{IsTarget}
 use Rattle.file_tools.specs.Target.{Target}
-use Rattle.file_tools.specs.Answer.{saved}
+use Rattle.save_list.specs.Save.{saved}
 use Rattle.file_tools.specs.SplitWalk.{layout_of, row_of, column_of, head_of, cells_of, text_of, words_of, words_before, job_words, saves_of}
-use Rattle.file_tools.proofs.ListLemmas.{row_below}
-use Rattle.file_tools.proofs.PieceLists.{words_with}
+use Rattle.file_tools.proofs.SplitHeads.{head_is}
 use Rattle.file_tools.proofs.WordCounts.{no_words, next_words}
-use Rattle.file_tools.proofs.SavedPieces.{few_columns, piece_held}
+use Rattle.file_tools.proofs.SavedPieces.{piece_held}
 
 -- piece k, and so many of them from one on
 abbrev pub piece_of : Target → Matrix → ℕ → Piece
@@ -48,29 +49,7 @@ array_is t m k =
     matrix_is (cells_of t m k) _ _ (ap (max 1) (sym (length-owned (row_spread l) (row_of t k) m.rows))) (ap (max 1) (sym (length-owned (column_spread l) (column_of t k) m.columns)))
 
 is_head : (t : Target) (m : Matrix) (k : ℕ) → IsTarget t.nprow t.npcol t.mb t.nb → k < t.nprow * t.npcol → IsMatrix width32 m → IsHead (head_of t m.rows m.columns k)
-is_head t m k is lt whole =
-    let l = layout_of t m.rows m.columns in
-    let tall : t.nprow ≤ t.nprow * t.npcol = le-mul_of_pos_right t.nprow is.columns in
-    let rows = below_le (row_spread l) (row_of t k) m.rows in
-    record {
-      some_rows = is.rows;
-      few_rows = omega (arith, tall, is.grid);
-      some_columns = is.columns;
-      few_columns = few_columns t is;
-      few = is.grid;
-      row = row_below k t.nprow t.npcol is.columns lt;
-      column = mod-lt k is.columns;
-      rows_fit = whole.rows_fit;
-      columns_fit = whole.columns_fit;
-      some_row_block = is.row_block;
-      row_block_fits = is.row_block_fits;
-      some_column_block = is.column_block;
-      column_block_fits = is.column_block_fits;
-      row_source = is.rows;
-      column_source = is.columns;
-      lead = omega arith;
-      lead_fits = omega (arith, rows, whole.rows_fit);
-    }
+is_head t m k is lt whole = head_is t m.rows m.columns k is lt whole.rows_fit whole.columns_fit
 
 -- each word is an element or 0
 abbrev Fits : ℤ → Type 0
@@ -104,6 +83,11 @@ is_array t m k whole few =
     }
 
 -- ---- the words of the pieces before
+
+words_with : (ps : List Piece) (p : Piece) → pieces.words_of (ps ++ p ∷ []) ≡ pieces.words_of ps + grammar.array_words p.head
+words_with ps p =
+    let words : Piece → ℕ = λ q. grammar.array_words q.head in
+    ap sum (map-append words ps (p ∷ [])) ∙ sum_by_push (λ n. n) (map words ps) (grammar.array_words p.head)
 
 grows : (t : Target) (rows columns k n d : ℕ) → n ≡ d + k → words_before t rows columns k ≤ words_before t rows columns n
 grows t rows columns k n zero e = let same : k ≡ n = omega arith in subst (λ (j : ℕ). words_before t rows columns k ≤ words_before t rows columns j) same (omega arith)

@@ -9,14 +9,15 @@ use Rattle.tool_words.specs.declared.command.Command.{Command}
 use Rattle.tool_words.specs.declared.command.Command.TheVariants as command
 use Rattle.tool_words.proofs.WithinLaws.{asked_command}
 use Rattle.tool_words.specs.declared.asked.Asked.{Asked}
-use Rattle.file_tools.specs.Texts.{usage}
-use Rattle.file_tools.specs.Walk.{Walk}
+use Rattle.file_tools.specs.Usage.{usage}
+use Rattle.command_walks.specs.Walk.{Walk}
 use Rattle.file_tools.specs.ToolWalk.{built, names_asked, asked_walk, usage_walk, walk_of, saved_names}
-use Rattle.file_tools.specs.Outcome.{IsOutcome, Leaves, Gains}
+use Rattle.tool_lines.specs.Saying.{Gains}
+use Rattle.command_walks.specs.Outcome.{IsOutcome, Leaves}
 use Rattle.file_tools.specs.Troubles.{Follows, status_of, status_in, line_in}
-use Rattle.file_tools.proofs.GoingOn.{never_words}
-use Rattle.file_tools.specs.declared.status.Status.{Status}
-use Rattle.file_tools.specs.declared.status.Status.TheVariants as status
+use Rattle.file_tools.proofs.FollowLaws.{never_words}
+use Rattle.command_walks.specs.declared.status.Status.{Status}
+use Rattle.command_walks.specs.declared.status.Status.TheVariants as status
 use Rattle.file_tools.specs.declared.trouble.Trouble.{Trouble}
 use Rattle.file_tools.specs.declared.trouble.Trouble.TheVariants as trouble
 
@@ -38,20 +39,20 @@ asked_ends : (words : List (List ℕ)) (o : Option Asked) (s : Status) (old new 
 unfolding walk_of saved_names
 asked_ends words o s old new before after quiet said e = subst (λ (p : Option Asked). IsOutcome s (asked_walk p) (names_asked p) old new before after quiet said) e
 
-leaves_in : {X : Type 0} (r : Result X Trouble) (w : Walk) (names : List (List ℕ)) (old new : Outside) (before after : Poured) → Follows r w names old new before after → Leaves (status_in r) w names (line_in r) old new before after
+leaves_in : {X : Type 0} (r : Result X Trouble) (w : Walk) (names : Option (List (List ℕ))) (old new : Outside) (before after : Poured) → Follows r w names old new before after → Leaves (status_in r) w names (line_in r) old new before after
 leaves_in (Ok x) w names old new before after h = h
 leaves_in (Err t) w names old new before after h = h
 
 -- a command that follows its walk
-pub command_ends : {X : Type 0} (r : Result X Trouble) (words : List (List ℕ)) (o : Option Asked) (w : Walk) (names : List (List ℕ)) (s : Status) (old new : Outside) (before after quiet said : Poured) → o ≡ asked built words → w ≡ asked_walk o → names ≡ names_asked o → s ≡ status_in r → Follows r w names old new before after
+pub command_ends : {X : Type 0} (r : Result X Trouble) (words : List (List ℕ)) (o : Option Asked) (w : Walk) (names : Option (List (List ℕ))) (s : Status) (old new : Outside) (before after quiet said : Poured) → o ≡ asked built words → w ≡ asked_walk o → names ≡ names_asked o → s ≡ status_in r → Follows r w names old new before after
     → (IsTrue quiet.told → Gains quiet said (line_in r)) → (s ≡ status.Done → said ≡ quiet) → IsOutcome s (walk_of words) (saved_names words) old new before after quiet said
 command_ends r words o w names s old new before after quiet said are walk named is follows says silent =
     let P : Walk → Type 0 = λ v. Leaves s v names (line_in r) old new before after in
-    let Q : List (List ℕ) → Type 0 = λ ns. Leaves s (asked_walk o) ns (line_in r) old new before after in
+    let Q : Option (List (List ℕ)) → Type 0 = λ ns. Leaves s (asked_walk o) ns (line_in r) old new before after in
     let R : Status → Type 0 = λ t. Leaves t w names (line_in r) old new before after in
     asked_ends words o s old new before after quiet said are (record { line = line_in r; leaves = subst Q named (subst P walk (subst R (sym is) (leaves_in r w names old new before after follows))); says = says; silent = silent })
 
-usage_leaves : (names : List (List ℕ)) (old : Outside) (pour : Poured) → Leaves status.Words usage_walk names usage old old pour pour
+usage_leaves : (names : Option (List (List ℕ))) (old : Outside) (pour : Poured) → Leaves status.Words usage_walk names usage old old pour pour
 unfolding usage_walk
 usage_leaves names old pour = record { walk_is = refl; untouched = record { files = refl; opens = refl }; counts = record { faults = refl; misses = refl }; silent = refl }
 

@@ -1,20 +1,20 @@
 -- The words of a job.
-use Rattle.std.proofs.Common.{◌≡◌, ℕ, suc, ◌+◌, ◌*◌, ◌^◌, ◌≤◌, ap, refl, ◌∙◌, arith}
-use Rattle.std.proofs.Math.Nat.{mul-le-mul}
+use Rattle.std.proofs.Common.{◌≡◌, ℕ, suc, ◌+◌, ◌*◌, ap, refl, ◌∙◌}
+use Rattle.piece_grammar.specs.Head.{Head}
+use Rattle.piece_moves.specs.Distribution.{Distribution, head_over}
+use Rattle.piece_moves.specs.PieceMove.{words_over}
 use Rattle.file_tools.specs.Target.{Target}
-use Rattle.file_tools.specs.SplitWalk.{words_of, words_before}
+use Rattle.file_tools.specs.SplitWalk.{distribution_of, words_of, words_before}
 
 pub no_words : (s : Target) (rows columns : ℕ) → words_before s rows columns 0 ≡ 0
-unfolding words_before
+unfolding words_over
 no_words s rows columns = refl
 
 pub next_words : (s : Target) (rows columns k : ℕ) → words_before s rows columns (suc k) ≡ words_before s rows columns k + words_of s rows columns k
-unfolding words_before
+unfolding words_over
 next_words s rows columns k = refl
 
-pub more_words : (s : Target) (rows columns k : ℕ) → words_before s rows columns (k + 1) ≡ words_before s rows columns k + words_of s rows columns k
-more_words s rows columns k = let one : k + 1 ≡ suc k = omega arith in ap (words_before s rows columns) one ∙ next_words s rows columns k
-
--- the words of one array fit well
-pub product_fits : (a b : ℕ) → a ≤ 2 ^ 24 → b ≤ 2 ^ 24 → a * b ≤ 2 ^ 48
-product_fits a b h k = grind (arith, mul-le-mul h k)
+-- the words of all pieces, by the head of the first
+pub words_are : (s : Target) (rows columns n : ℕ) (h : Head) (d : Distribution) → d ≡ distribution_of s → h ≡ head_over d rows columns 0 → n ≡ words_over h d (d.nprow * d.npcol) → n ≡ words_before s rows columns (s.nprow * s.npcol)
+words_are s rows columns n h d there here count =
+    count ∙ ap (λ (x : Head). words_over x d (d.nprow * d.npcol)) here ∙ ap (λ (e : Distribution). words_over (head_over e rows columns 0) e (e.nprow * e.npcol)) there

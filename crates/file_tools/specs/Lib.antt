@@ -20,14 +20,16 @@ pub use Rattle.piece_grammar.specs.Pieces
 pub use Rattle.piece_grammar.specs.Faults as PieceFaults
 pub use Rattle.piece_file.specs.Gathering
 pub use Rattle.mm_grammar.specs.Faults
-pub mod Texts
-pub mod Answer
-pub mod Walk
-pub mod FaultTexts
-pub mod Codes
-pub mod Saying
-pub mod Outcome
-pub mod ReadingWalks
+pub use Rattle.tool_lines.specs.Texts
+pub use Rattle.tool_lines.specs.FaultTexts
+pub use Rattle.save_list.specs.Save
+pub use Rattle.save_list.specs.Saving
+pub use Rattle.command_walks.specs.Answer
+pub use Rattle.command_walks.specs.Walk
+pub use Rattle.command_walks.specs.Codes
+pub use Rattle.command_walks.specs.ReadingWalks
+pub use Rattle.command_walks.specs.Outcome
+pub mod Usage
 pub mod Causes
 pub mod Troubles
 pub mod TargetView

@@ -1,35 +1,30 @@
 -- What `move` does: its walk over the files.
-use Rattle.std.specs.Prelude.{ℕ, ◌*◌, List, [], ◌∷◌, map, codes}
-use Rattle.std.specs.List.{range_with_len}
+use Rattle.std.specs.Prelude.{ℕ, ◌*◌, List, [], ◌∷◌, codes}
 use Rattle.std.specs.Fmt.{decimal}
 use Rattle.line_text.specs.Lines.{ended}
 use Rattle.mm_text.specs.LocalMatrix.{local_matrix}
 use Rattle.piece_grammar.specs.Head.{Piece}
 use Rattle.piece_grammar.specs.PlainPiece.{piece_text}
 use Rattle.mr2d.specs.Homes.{Arrays, cells_of}
-use Rattle.piece_moves.specs.Distribution.{Distribution, head_over}
 use Rattle.piece_moves.specs.PieceMove.{first_of, ranks_for, move_for, state_after, move_words}
 use Rattle.move_numbers.specs.MoveNumbers.{move_messages, move_copies}
 use Rattle.piece_moves.specs.Numbers.{meets_of_whole}
 use Rattle.file_tools.specs.Target.{Target}
-use Rattle.file_tools.specs.Texts.{joined}
-use Rattle.file_tools.specs.Answer.{Save}
-use Rattle.file_tools.specs.Walk.{Walk, Ends, within_limit}
-use Rattle.file_tools.specs.ReadingWalks.{pieces_walk}
-use Rattle.file_tools.specs.SplitWalk.{name_of}
-
-abbrev pub distribution_of : Target → Distribution
-distribution_of t = record { nprow = t.nprow; npcol = t.npcol; mb = t.mb; nb = t.nb }
+use Rattle.tool_lines.specs.Texts.{joined}
+use Rattle.save_list.specs.Save.{Save, numbered}
+use Rattle.command_walks.specs.Walk.{Walk, Ends, within_limit}
+use Rattle.command_walks.specs.ReadingWalks.{pieces_walk}
+use Rattle.file_tools.specs.SplitWalk.{distribution_of, head_of, name_of}
 
 -- piece k of a matrix of so many rows and columns, whose local array stands with number 1 on rank k, is saved under its name
 abbrev pub moved_text : Target → (rows columns : ℕ) → Arrays → ℕ → List ℕ
-moved_text t rows columns arrays k = piece_text (head_over (distribution_of t) rows columns k) (local_matrix (cells_of arrays k 1))
+moved_text t rows columns arrays k = piece_text (head_of t rows columns k) (local_matrix (cells_of arrays k 1))
 
 abbrev pub save_moved : Target → (rows columns : ℕ) → Arrays → ℕ → Save
 save_moved t rows columns arrays k = record { name = name_of t k; text = moved_text t rows columns arrays k }
 
-unfoldable pub saves_moved : Target → (rows columns : ℕ) → Arrays → List Save
-saves_moved t rows columns arrays = map (save_moved t rows columns arrays) (range_with_len 0 (t.nprow * t.npcol))
+abbrev pub saves_moved : Target → (rows columns : ℕ) → Arrays → List Save
+saves_moved t rows columns arrays = numbered (save_moved t rows columns arrays) (t.nprow * t.npcol)
 
 -- the numbers of a move as its output
 abbrev pub numbers_line : (meets messages copies : ℕ) → List ℕ
@@ -41,9 +36,13 @@ numbers_of t ps =
     let ranks = ranks_for (first_of ps) (distribution_of t) in
     numbers_line (meets_of_whole mv) (move_messages mv ranks) (move_copies mv ranks)
 
--- a move within the limit saves the arrays of the plain move, and tells its numbers
+-- a move saves the arrays of the plain move, and tells its numbers
+abbrev pub end_walk : Target → List Piece → Walk
+end_walk t ps = Ends (saves_moved t (first_of ps).m (first_of ps).n (state_after ps (distribution_of t)).arrays) (numbers_of t ps)
+
+-- if it is within the limit
 abbrev pub moved_walk : Target → List Piece → Walk
-moved_walk t ps = within_limit (move_words ps (distribution_of t)) (Ends (saves_moved t (first_of ps).m (first_of ps).n (state_after ps (distribution_of t)).arrays) (numbers_of t ps))
+moved_walk t ps = within_limit (move_words ps (distribution_of t)) (end_walk t ps)
 
 -- `move` reads the pieces, and saves the moved ones
 abbrev pub move_walk : (prefix : List ℕ) → Target → Walk

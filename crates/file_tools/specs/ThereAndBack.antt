@@ -8,8 +8,9 @@ use Rattle.mm_grammar.specs.MatrixText.{IsMatrixText}
 use Rattle.mm_grammar.specs.PlainText.{plain_text}
 use Rattle.tool_words.specs.Within.{IsTarget}
 use Rattle.file_tools.specs.Target.{Target}
-use Rattle.file_tools.specs.Answer.{save, saved, done}
-use Rattle.file_tools.specs.Walk.{answer}
+use Rattle.save_list.specs.Save.{save, saved}
+use Rattle.command_walks.specs.Answer.{done}
+use Rattle.command_walks.specs.Walk.{answer}
 use Rattle.file_tools.specs.SplitWalk.{job_words, saves_of, split_walk}
 use Rattle.file_tools.specs.JoinWalk.{join_walk}
 

@@ -6,12 +6,12 @@ use Rattle.tool_words.specs.declared.command.Command.TheVariants as command
 use Rattle.tool_words.specs.declared.asked.Asked.{Asked}
 use Rattle.tool_words.specs.declared.asked.Asked.TheVariants as asks
 use Rattle.file_tools.specs.Lists.{names_by}
-use Rattle.file_tools.specs.Texts.{usage}
-use Rattle.file_tools.specs.Walk.{Walk, Refuses}
+use Rattle.file_tools.specs.Usage.{usage}
+use Rattle.command_walks.specs.Walk.{Walk, Refuses}
 use Rattle.file_tools.specs.SplitWalk.{split_walk}
 use Rattle.file_tools.specs.JoinWalk.{join_walk}
 use Rattle.file_tools.specs.MoveWalk.{move_walk}
-use Rattle.file_tools.specs.declared.status.Status.TheVariants as status
+use Rattle.command_walks.specs.declared.status.Status.TheVariants as status
 
 -- the commands that are built
 abbrev pub built : List Command
@@ -30,19 +30,19 @@ asked_walk (Some (asks.Run program how)) = usage_walk
 asked_walk (Some (asks.Load seed size)) = usage_walk
 asked_walk None = usage_walk
 
--- the names of the files that the words ask to be saved, in their order
-abbrev pub names_asked : Option Asked → List (List ℕ)
-names_asked (Some (asks.Split input output p q mb nb)) = names_by output q (p * q)
-names_asked (Some (asks.Join prefix output)) = output ∷ []
-names_asked (Some (asks.Move prefix output p q mb nb how)) = names_by output q (p * q)
-names_asked (Some (asks.Check program)) = []
-names_asked (Some (asks.Run program how)) = []
-names_asked (Some (asks.Load seed size)) = []
-names_asked None = []
+-- the names of the files that the words ask to be saved, in their order, where the words alone tell them
+abbrev pub names_asked : Option Asked → Option (List (List ℕ))
+names_asked (Some (asks.Split input output p q mb nb)) = Some (names_by output q (p * q))
+names_asked (Some (asks.Join prefix output)) = Some (output ∷ [])
+names_asked (Some (asks.Move prefix output p q mb nb how)) = Some (names_by output q (p * q))
+names_asked (Some (asks.Check program)) = Some []
+names_asked (Some (asks.Run program how)) = Some []
+names_asked (Some (asks.Load seed size)) = Some []
+names_asked None = Some []
 
 -- The walk of these words, and the names of what it saves.
 unfoldable pub walk_of : List (List ℕ) → Walk
 walk_of words = asked_walk (asked built words)
 
-unfoldable pub saved_names : List (List ℕ) → List (List ℕ)
+unfoldable pub saved_names : List (List ℕ) → Option (List (List ℕ))
 saved_names words = names_asked (asked built words)

@@ -1,16 +1,15 @@
 -- The status and the line of what keeps a command from its end.
-use Rattle.std.specs.Prelude.{◌≡◌, ℕ, IsTrue, List, [], ◌++◌, length, Result, Ok, Err}
-use Rattle.store_io.specs.Outside.{Outside, Poured, SameCounts, Rose}
+use Rattle.std.specs.Prelude.{ℕ, List, [], Option, Result, Ok, Err}
+use Rattle.store_io.specs.Outside.{Outside, Poured}
 use Rattle.mm_reader.specs.Views.{fault_of}
 use Rattle.piece_file.specs.FaultView.{fault_view}
-use Rattle.file_tools.specs.Texts.{missing, store_fault, at_line, too_many_words, out_of_memory, output_fault}
-use Rattle.file_tools.specs.FaultTexts.{matrix_fault_text, piece_fault_text}
-use Rattle.file_tools.specs.Walk.{Walk}
-use Rattle.file_tools.specs.Answer.{Save, saved}
-use Rattle.file_tools.specs.Saying.{SaysFront}
-use Rattle.file_tools.specs.Outcome.{Leaves, opened}
-use Rattle.file_tools.specs.declared.status.Status.{Status}
-use Rattle.file_tools.specs.declared.status.Status.TheVariants as status
+use Rattle.tool_lines.specs.Texts.{missing, store_fault, at_line, too_many_words, out_of_memory, output_fault}
+use Rattle.tool_lines.specs.FaultTexts.{matrix_fault_text, piece_fault_text}
+use Rattle.command_walks.specs.Walk.{Walk}
+use Rattle.command_walks.specs.Outcome.{Leaves}
+use Rattle.command_walks.specs.Following.{StopsWith}
+use Rattle.command_walks.specs.declared.status.Status.{Status}
+use Rattle.command_walks.specs.declared.status.Status.TheVariants as status
 use Rattle.file_tools.specs.declared.trouble.Trouble.{Trouble}
 use Rattle.file_tools.specs.declared.trouble.Trouble.TheVariants.{Missing, Failed, Matrix, Piece, TooMany, NoMemory, Output}
 
@@ -32,42 +31,6 @@ line_of (TooMany words) = too_many_words words
 line_of NoMemory = out_of_memory
 line_of Output = output_fault
 
--- what a command leaves that follows this walk, by what it answers
-abbrev pub Follows : {X : Type 0} → Result X Trouble → (walk : Walk) → (names : List (List ℕ)) → (old new : Outside) → (before after : Poured) → Type 0
-Follows (Ok x) walk names old new before after = Leaves status.Done walk names [] old new before after
-Follows (Err trouble) walk names old new before after = Leaves (status_of trouble) walk names (line_of trouble) old new before after
-
--- a command stops at this trouble, and its output is as it was
-abbrev pub Stops : Trouble → (walk : Walk) → (names : List (List ℕ)) → (old new : Outside) → Type 0
-Stops trouble walk names old new = (pour : Poured) → Leaves (status_of trouble) walk names (line_of trouble) old new pour pour
-
--- what a command leaves of the store where all its saves are done
-pub record HasSaved (saves : List Save) (old new : Outside) : Type 0 where
-  pub files : IsTrue old.told → new.files ≡ saved saves old.files
-  pub opens : new.opens ≡ opened (length saves) old.opens
-  pub counts : SameCounts old new
-
--- what telling the output leaves: all of it was told, or the output failed, and gained some front of it
-pub record IsTold (text : List ℕ) (before after : Poured) : Type 0 where
-  pub gained : IsTrue before.told → after.bytes ≡ before.bytes ++ text
-  pub poured : after.faults ≡ before.faults
-
-pub record IsLost (trouble : Trouble) (text : List ℕ) (before after : Poured) : Type 0 where
-  pub is : trouble ≡ Output
-  pub gained : IsTrue before.told → SaysFront before after text
-  pub poured : Rose before.faults after.faults
-
-abbrev pub Prints : {X : Type 0} → Result X Trouble → (text : List ℕ) → (before after : Poured) → Type 0
-Prints (Ok x) text before after = IsTold text before after
-Prints (Err trouble) text before after = IsLost trouble text before after
-
--- what reading leaves where it goes on
-pub record ReadsOn (old new : Outside) : Type 0 where
-  pub told : new.told ≡ old.told
-  pub files : new.files ≡ old.files
-  pub opens : new.opens ≡ old.opens
-  pub counts : SameCounts old new
-
 -- the status and the line of what a command answers
 abbrev pub status_in : {X : Type 0} → Result X Trouble → Status
 status_in (Ok x) = status.Done
@@ -76,3 +39,12 @@ status_in (Err trouble) = status_of trouble
 abbrev pub line_in : {X : Type 0} → Result X Trouble → List ℕ
 line_in (Ok x) = []
 line_in (Err trouble) = line_of trouble
+
+-- what a command leaves that follows this walk, by what it answers
+abbrev pub Follows : {X : Type 0} → Result X Trouble → (walk : Walk) → (names : Option (List (List ℕ))) → (old new : Outside) → (before after : Poured) → Type 0
+Follows (Ok x) walk names old new before after = Leaves status.Done walk names [] old new before after
+Follows (Err trouble) walk names old new before after = Leaves (status_of trouble) walk names (line_of trouble) old new before after
+
+-- a command stops at this trouble, and its output is as it was
+abbrev pub Stops : Trouble → (walk : Walk) → (names : Option (List (List ℕ))) → (old new : Outside) → Type 0
+Stops trouble walk names old new = StopsWith (status_of trouble) (line_of trouble) walk names old new

@@ -1,45 +1,57 @@
 //! The command `join`.
-ghost use Rattle.std.specs.Prelude.{◌≡◌, ◌+◌, ◌*◌, ◌^◌, ◌≤◌, ◌∷◌, [], max, length, map, IfOk};
+ghost use Rattle.std.specs.Prelude.{◌≡◌, ◌+◌, ◌*◌, ◌^◌, ◌≤◌, ◌∷◌, [], max, map, Some};
 ghost use Rattle.store_io.specs.Outside.{Poured};
-ghost use Rattle.piece_grammar.specs.Head.{IsHead, layout_of as spread_of, array_words as words_of_head};
-ghost use Rattle.piece_grammar.specs.Pieces.{words_of};
+ghost use Rattle.piece_grammar.specs.Head.{IsHead, layout_of as spread_of};
 ghost use Rattle.piece_file.specs.HeadView.{head_view};
 ghost use Rattle.piece_file.specs.PieceView.{piece_view};
 ghost use Rattle.piece_file.specs.Gathering.{AreTurns};
 ghost use Rattle.spread_cells.specs.LayoutView.{layout_view};
-ghost use Rattle.file_tools.specs.JoinWalk.{array_of, layout_by, whole_walk, join_walk};
+ghost use Rattle.spread_cells.specs.JoinedMatrix.{matrix_of};
+ghost use Rattle.file_tools.specs.JoinWalk.{layout_by, whole_walk, join_walk};
 ghost use Rattle.file_tools.specs.Troubles.{Follows};
 
-use crate::job::LIMIT;
+use crate::names::LIMIT;
 use crate::reading::read_pieces;
-use crate::saving::save_matrix;
+use crate::saving::save_to_end;
 use crate::trouble::Trouble;
-use pack_words::LocalArray;
+use mm_text::write_matrix;
 use piece_file::{Head, Name, Piece};
+use piece_moves::{arrays_of, pieces_words};
+use save_list::SaveList;
 use spread_cells::{JoinedCells, Layout};
-use std::alloc::{AllocError, Global};
-use store_io::Store;
+use std::alloc::Global;
+use store_io::{Store, StoreErr};
 
-// The words of a piece's local array.
-fn array_words(piece: &Piece) -> u64
-    ensures words { result ≡ words_of_head (piece_view piece.now).head }
-    ensures bound { result ≤ 2 ^ 26 }
-{
-    u64::from(piece.cells.lld()) * u64::from(piece.cells.cols())
+// A joined matrix as the file that is to be saved.
+#[derive(Drop)]
+struct JoinedFile<'a> {
+    name: Name,
+    cells: JoinedCells<'a>,
+    ghost rows: { (matrix_of cells).rows ≤ 2 ^ 24 },
+    ghost columns: { (matrix_of cells).columns ≤ 2 ^ 24 },
+    ghost area: { (matrix_of cells).rows * (matrix_of cells).columns ≤ 2 ^ 26 },
 }
 
-// The words of all local arrays.
-#[tactic(auto, using(crate::proofs::PieceLists::words_more))]
-fn pieces_words(pieces: &[Piece]) -> u64
-    requires { length pieces.now ≤ 64 }
-    ensures words { result ≡ words_of (map piece_view pieces.now) }
-    ensures bound { result ≤ 64 * 2 ^ 26 }
-{
-    let mut words = 0u64;
-    for piece in pieces {
-        words += array_words(piece);
+impl SaveList for JoinedFile<'_> {
+    ghost use Rattle.mm_grammar.specs.PlainText.{plain_text};
+    ghost use Rattle.spread_cells.specs.JoinedMatrix.{matrix_of};
+    ghost use Rattle.save_list.specs.Save.{save};
+
+    ghost count = { λ f. 1 };
+
+    ghost save_at = { λ f _. save f.name (plain_text (matrix_of f.cells)) };
+
+    fn count_saves(&self) -> u32 {
+        1
     }
-    words
+
+    fn save_one<S: Store>(&self, store: &mut S, _number: u32) -> Result<(), StoreErr> {
+        write_matrix(store, self.name.as_str(), &self.cells)
+    }
+
+    fn into_name(self, _number: u32) -> Name {
+        self.name
+    }
 }
 
 // How the whole matrix is spread, as a head tells.
@@ -77,21 +89,8 @@ fn layout_by_first(pieces: &[Piece]) -> Layout
     layout_of(&pieces[0].head)
 }
 
-// The local arrays of the pieces.
-#[tactic(auto, using(crate::proofs::PieceLists::arrays_more))]
-fn arrays_of(alloc: Global, pieces: Vec<Piece>) -> Result<Vec<LocalArray>, AllocError>
-    ensures { IfOk result (λ v. v.items ≡ map array_of (map piece_view pieces.items)) }
-{
-    let mut arrays = Vec::with_capacity(alloc, pieces.len())?;
-    for piece in pieces {
-        let Piece { head: _, cells } = piece;
-        arrays.push(cells)?;
-    }
-    Ok(arrays)
-}
-
 // Joins the pieces, and writes the whole matrix. All memory is taken before the file is opened for writing.
-#[tactic(auto, using(crate::proofs::GoingOn::wants_memory))]
+#[tactic(auto, using(command_walks::proofs::GoingOn::wants_memory))]
 fn join_whole<S: Store>(
     alloc: Global,
     store: &mut S,
@@ -100,7 +99,7 @@ fn join_whole<S: Store>(
 ) -> Result<(), Trouble>
     requires { AreTurns (map piece_view pieces.items) }
     ensures { (pour : Poured) →
-        Follows result (whole_walk output (map piece_view pieces.items)) (output ∷ []) (S.state store.old)
+        Follows result (whole_walk output (map piece_view pieces.items)) (Some (output ∷ [])) (S.state store.old)
         (S.state store.new) pour pour }
 {
     let layout = layout_by_first(&pieces);
@@ -110,7 +109,11 @@ fn join_whole<S: Store>(
     }
     let arrays = arrays_of(alloc, pieces)?;
     let cells = JoinedCells::new(alloc, layout, &arrays)?;
-    save_matrix(store, output, &cells)
+    let file = JoinedFile {
+        name: output,
+        cells,
+    };
+    save_to_end(store, file)
 }
 
 /// Gathers the pieces, joins them, and writes the whole matrix to the file `output`.
@@ -121,7 +124,7 @@ pub(crate) fn run_join<S: Store>(
     output: Name,
 ) -> Result<(), Trouble>
     ensures { (pour : Poured) →
-        Follows result (join_walk prefix.now output) (output ∷ []) (S.state store.old) (S.state store.new) pour pour }
+        Follows result (join_walk prefix.now output) (Some (output ∷ [])) (S.state store.old) (S.state store.new) pour pour }
 {
     let pieces = read_pieces(alloc, store, prefix)?;
     join_whole(alloc, store, pieces, output)

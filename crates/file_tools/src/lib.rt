@@ -1,19 +1,19 @@
 //! The commands of gridtool on files: the top call.
 #![tactic(auto)]
 
-mod job;
+mod distribution;
 mod join;
-mod line;
 mod moves;
+mod names;
 mod reading;
 mod saving;
 mod split;
-mod status;
+mod split_files;
 mod target;
 mod tell;
 mod tool;
 mod trouble;
 
-pub use status::Status;
+pub use command_walks::Status;
 pub use tell::no_memory;
 pub use tool::plain_tool;

@@ -1,32 +1,65 @@
-//! Saving one matrix.
-ghost use Rattle.std.specs.Prelude.{◌≡◌, ◌*◌, ◌^◌, ◌≤◌, [], ◌∷◌};
+//! The end of a command: its saves, and its output.
+ghost use Rattle.std.specs.Prelude.{◌≡◌, [], ℕ, List, map, IfErr, OnOk, Some};
 ghost use Rattle.store_io.specs.Outside.{Poured};
-ghost use Rattle.mm_grammar.specs.PlainText.{plain_text};
-ghost use Rattle.file_tools.specs.Answer.{save};
-ghost use Rattle.file_tools.specs.Walk.{Ends};
-ghost use Rattle.file_tools.specs.Troubles.{Follows};
+ghost use Rattle.line_text.specs.Lines.{ended};
+ghost use Rattle.tool_lines.specs.Texts.{joined};
+ghost use Rattle.tool_lines.specs.Saying.{part_text};
+ghost use Rattle.save_list.specs.Save.{numbered, names_of};
+ghost use Rattle.save_list.specs.Saving.{HasSaved};
+ghost use Rattle.command_walks.specs.Walk.{Ends};
+ghost use Rattle.file_tools.specs.Troubles.{Follows, Stops};
 
 use crate::trouble::Trouble;
-use mm_text::{Cells, write_matrix};
-use piece_file::Name;
-use store_io::Store;
+use save_list::{SaveList, save_all};
+use store_io::{Sink, Store};
+use tool_lines::{Part, say_to_end};
 
-/// Saves the text of a matrix.
-#[tactic(auto, using(crate::proofs::SavingLaws::one_saved))]
-pub(crate) fn save_matrix<S: Store, C: Cells>(
-    store: &mut S,
-    name: Name,
-    cells: &C,
-) -> Result<(), Trouble>
-    requires rows { (C.matrix cells.now).rows ≤ 2 ^ 24 }
-    requires columns { (C.matrix cells.now).columns ≤ 2 ^ 24 }
-    requires area { (C.matrix cells.now).rows * (C.matrix cells.now).columns ≤ 2 ^ 26 }
-    ensures { (pour : Poured) →
-        Follows result (Ends (save name (plain_text (C.matrix cells.now)) ∷ []) []) (name ∷ []) (S.state store.old)
-        (S.state store.new) pour pour }
+// Saves all texts of a list, whatever the output is to be then.
+#[tactic(auto, using(crate::proofs::SavingLaws::save_stops))]
+fn save_texts<S: Store, L: SaveList + Drop>(store: &mut S, list: L) -> Result<(), Trouble>
+    ensures all { OnOk result (HasSaved (L.save_at list) (L.count list) (S.state store.old) (S.state store.new)) }
+    ensures stops { (output : List ℕ) → IfErr result (λ t. Stops t (Ends (numbered (L.save_at list) (L.count list)) output)
+        (Some (names_of (numbered (L.save_at list) (L.count list)))) (S.state store.old) (S.state store.new)) }
 {
-    match write_matrix(store, name.as_str(), cells) {
+    match save_all(store, &list) {
         Ok(()) => Ok(()),
-        Err(_) => Err(Trouble::Failed(name)),
+        Err(error) => Err(Trouble::Failed(list.into_name(error.save))),
+    }
+}
+
+/// Saves all texts of a list, where nothing is told on the output.
+#[tactic(auto, using(crate::proofs::SavingLaws::nothing_more))]
+pub(crate) fn save_to_end<S: Store, L: SaveList + Drop>(
+    store: &mut S,
+    list: L,
+) -> Result<(), Trouble>
+    ensures { (pour : Poured) → Follows result (Ends (numbered (L.save_at list) (L.count list)) [])
+        (Some (names_of (numbered (L.save_at list) (L.count list)))) (S.state store.old) (S.state store.new) pour pour }
+{
+    match save_texts(store, list) {
+        Ok(()) => Ok(()),
+        Err(trouble) => Err(trouble),
+    }
+}
+
+/// Saves all texts of a list, and then tells a line on the output.
+#[tactic(auto, using(crate::proofs::SavingLaws::told_line, crate::proofs::SavingLaws::lost_line))]
+pub(crate) fn save_and_tell<S: Store, O: Sink, L: SaveList + Drop>(
+    store: &mut S,
+    out: &mut O,
+    list: L,
+    line: &[Part<'_>],
+) -> Result<(), Trouble>
+    ensures { Follows result (Ends (numbered (L.save_at list) (L.count list)) (ended (joined (map part_text line.now))))
+        (Some (names_of (numbered (L.save_at list) (L.count list)))) (S.state store.old) (S.state store.new)
+        (O.state out.old) (O.state out.new) }
+{
+    match save_texts(store, list) {
+        Ok(()) => {}
+        Err(trouble) => return Err(trouble),
+    }
+    match say_to_end(out, line) {
+        Ok(()) => Ok(()),
+        Err(_) => Err(Trouble::Output),
     }
 }

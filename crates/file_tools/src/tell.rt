@@ -1,115 +1,16 @@
-//! The texts of the error stream: what is told of a trouble.
-ghost use Rattle.std.specs.Prelude.{◌≡◌, IsTrue, map};
-ghost use Rattle.mm_reader.specs.Views.{fault_of};
-ghost use Rattle.piece_file.specs.FaultView.{fault_view};
-ghost use Rattle.file_tools.specs.Saying.{Says, Tells, part_text};
-ghost use Rattle.file_tools.specs.Outcome.{Gains};
+//! What is told on the error stream of a command that didn't come to its end.
+ghost use Rattle.std.specs.Prelude.{◌≡◌, IsTrue};
+ghost use Rattle.tool_lines.specs.Texts.{out_of_memory};
+ghost use Rattle.tool_lines.specs.Saying.{Says, Tells, Gains};
+ghost use Rattle.command_walks.specs.declared.status.Status.TheVariants as status;
 ghost use Rattle.file_tools.specs.Troubles.{line_of, status_in, line_in};
-ghost use Rattle.file_tools.specs.Texts.{line, at_line, usage, out_of_memory};
-ghost use Rattle.file_tools.specs.FaultTexts.{matrix_fault_text, piece_fault_text};
-ghost use Rattle.file_tools.specs.declared.status.Status.TheVariants as status;
+ghost use Rattle.file_tools.specs.Usage.{usage};
 
-use crate::line::Part::{Count, Info, Text, Words};
-use crate::line::{Part, say, say_line};
-use crate::status::Status;
 use crate::trouble::Trouble;
-use mm_reader::MmFault;
-use piece_file::PieceFault;
+use command_walks::Status;
 use store_io::{Sink, SinkErr};
-
-// A line of the tool. A fault of the stream changes nothing.
-#[tactic(auto, using(crate::proofs::SayingLemmas::gains_all, crate::proofs::SayingLemmas::gains_front))]
-fn tell_line<E: Sink>(err: &mut E, place: &[Part<'_>], text: &[Part<'_>])
-    ensures { IsTrue (E.state err.old).told →
-        Gains (E.state err.old) (E.state err.new) (line (map part_text place.now) (map part_text text.now)) }
-{
-    match say_line(err, place, text) {
-        Ok(()) => {}
-        Err(_) => {}
-    }
-}
-
-// What is wrong with a line of a file.
-fn tell_at<E: Sink>(err: &mut E, name: &str, line: u32, text: &[Part<'_>])
-    ensures { IsTrue (E.state err.old).told →
-        Gains (E.state err.old) (E.state err.new) (at_line name.now line (map part_text text.now)) }
-{
-    let place = [Text(name), Text(": line "), Count(line), Text(": ")];
-    tell_line(err, &place, text)
-}
-
-// The faults of a matrix file.
-#[tactic(auto, unfolding(crate::specs::FaultTexts::matrix_fault_text))]
-fn tell_matrix<E: Sink>(err: &mut E, name: &str, line: u32, fault: MmFault)
-    ensures { IsTrue (E.state err.old).told →
-        Gains (E.state err.old) (E.state err.new)
-        (at_line name.now line (matrix_fault_text (fault_of fault))) }
-{
-    match fault {
-        MmFault::Banner => tell_at(err, name, line, &[Text("not a Matrix Market file")]),
-        MmFault::Field => tell_at(err, name, line, &[Text("not an array of integers")]),
-        MmFault::Symmetry => tell_at(err, name, line, &[Text("unknown symmetry")]),
-        MmFault::Size => tell_at(err, name, line, &[Text("bad size line")]),
-        MmFault::Value => tell_at(err, name, line, &[Text("bad value")]),
-        MmFault::Range => tell_at(err, name, line, &[Text("value out of range")]),
-        MmFault::TooFew(have, want) => tell_at(
-            err,
-            name,
-            line,
-            &[
-                Text("too few values, have "),
-                Count(have),
-                Text(" want "),
-                Count(want),
-            ],
-        ),
-        MmFault::TooMany(want) => tell_at(
-            err,
-            name,
-            line,
-            &[Text("too many values, want "), Count(want)],
-        ),
-        MmFault::LineLong => tell_at(err, name, line, &[Text("line too long")]),
-        MmFault::FileLong => tell_at(err, name, line, &[Text("file too long")]),
-        MmFault::NotText => tell_at(err, name, line, &[Text("byte that is not text")]),
-    }
-}
-
-// The faults of a piece.
-#[tactic(auto, unfolding(crate::specs::FaultTexts::piece_fault_text))]
-fn tell_piece<E: Sink>(err: &mut E, name: &str, line: u32, fault: PieceFault)
-    ensures { IsTrue (E.state err.old).told →
-        Gains (E.state err.old) (E.state err.new)
-        (at_line name.now line (piece_fault_text (fault_view fault))) }
-{
-    match fault {
-        PieceFault::DescLine => tell_at(err, name, line, &[Text("bad DESC line")]),
-        PieceFault::DescEntry(info) => tell_at(err, name, line, &[Text("INFO "), Info(info.0)]),
-        PieceFault::WrongPlace => tell_at(err, name, line, &[Text("wrong place")]),
-        PieceFault::Disagree => {
-            tell_at(err, name, line, &[Text("disagrees with the first piece")])
-        }
-        PieceFault::Shape(rows, columns, lld, wanted) => tell_at(
-            err,
-            name,
-            line,
-            &[
-                Text("size is "),
-                Count(rows),
-                Text(" "),
-                Count(columns),
-                Text(", want "),
-                Count(lld),
-                Text(" "),
-                Count(wanted),
-            ],
-        ),
-        PieceFault::TooLarge(words) => {
-            tell_at(err, name, line, &[Text("too many words: "), Words(words)])
-        }
-        PieceFault::Mm(fault) => tell_matrix(err, name, line, fault),
-    }
-}
+use tool_lines::Part::{Text, Words};
+use tool_lines::{matrix_phrase, piece_phrase, say, tell_at, tell_line};
 
 // Why a command didn't come to its end.
 fn tell<E: Sink>(err: &mut E, trouble: &Trouble)
@@ -118,8 +19,14 @@ fn tell<E: Sink>(err: &mut E, trouble: &Trouble)
     match trouble {
         Trouble::Missing(name) => tell_line(err, &[Text(name.as_str())], &[Text(": missing")]),
         Trouble::Failed(name) => tell_line(err, &[Text(name.as_str())], &[Text(": store fault")]),
-        Trouble::Matrix(name, error) => tell_matrix(err, name.as_str(), error.line, error.what),
-        Trouble::Piece(name, line, fault) => tell_piece(err, name.as_str(), *line, *fault),
+        Trouble::Matrix(name, error) => {
+            let phrase = matrix_phrase(error.what);
+            tell_at(err, name.as_str(), error.line, &phrase)
+        }
+        Trouble::Piece(name, line, fault) => {
+            let phrase = piece_phrase(*fault);
+            tell_at(err, name.as_str(), *line, &phrase)
+        }
         Trouble::TooMany(words) => tell_line(err, &[], &[Text("too many words: "), Words(*words)]),
         Trouble::NoMemory => tell_line(err, &[], &[Text("out of memory")]),
         Trouble::Output => tell_line(err, &[], &[Text("output fault")]),
@@ -143,7 +50,7 @@ pub(crate) fn report<E: Sink>(err: &mut E, done: Result<(), Trouble>) -> Status
 }
 
 // The usage of the commands that are built.
-#[tactic(auto, unfolding(crate::specs::Texts::usage))]
+#[tactic(auto, unfolding(crate::specs::Usage::usage))]
 fn say_usage<E: Sink>(err: &mut E) -> Result<(), SinkErr>
     ensures says { IsTrue (E.state err.old).told →
         Says result (E.state err.old) (E.state err.new) usage }
@@ -156,7 +63,7 @@ fn say_usage<E: Sink>(err: &mut E) -> Result<(), SinkErr>
 }
 
 /// Tells how the tool is used. A fault of the stream changes nothing.
-#[tactic(auto, using(crate::proofs::SayingLemmas::gains_all, crate::proofs::SayingLemmas::gains_front))]
+#[tactic(auto, using(tool_lines::proofs::SayingLemmas::gains_all, tool_lines::proofs::SayingLemmas::gains_front))]
 pub(crate) fn report_usage<E: Sink>(err: &mut E) -> Status
     ensures status { result ≡ status.Words }
     ensures says { IsTrue (E.state err.old).told → Gains (E.state err.old) (E.state err.new) usage }

@@ -5,16 +5,16 @@ ghost use Rattle.tool_words.specs.CommandWords.{asked};
 ghost use Rattle.spread_cells.specs.Spreading.{SpreadsByHome};
 ghost use Rattle.spread_cells.specs.JoiningBack.{JoinsBack};
 ghost use Rattle.file_tools.specs.ToolWalk.{built, walk_of, saved_names};
-ghost use Rattle.file_tools.specs.Outcome.{IsOutcome, IsComplete};
+ghost use Rattle.command_walks.specs.Outcome.{IsOutcome, IsComplete};
 ghost use Rattle.file_tools.specs.ThereAndBack.{SplitsAndJoins};
 
 use crate::join::run_join;
 use crate::moves::run_move;
 use crate::split::run_split;
-use crate::status::Status;
 use crate::target::Target;
 use crate::tell::{report, report_usage};
 use crate::trouble::Trouble;
+use command_walks::Status;
 use piece_file::Name;
 use std::alloc::Global;
 use store_io::{Sink, Store};
@@ -112,7 +112,7 @@ fn run_tool<S: Store, O: Sink, E: Sink>(
 /// processes in blocks of MB by NB, and writes the pieces `OUT.p.q`; `join PREFIX OUT` joins the pieces `PREFIX.p.q`, and
 /// writes the matrix file OUT; `move PREFIX OUT P Q MB NB` moves the pieces `PREFIX.p.q` to such a grid and blocks, writes
 /// them as `OUT.p.q`, and tells the numbers of meets, messages and copies on the output. It never waits and always returns.
-#[tactic(auto, using(spread_cells::proofs::SpreadLaws::by_home, spread_cells::proofs::BackLaws::joins_back, crate::proofs::Completeness::complete, crate::proofs::BackLaws::splits_and_joins))]
+#[tactic(auto, using(spread_cells::proofs::SpreadLaws::by_home, spread_cells::proofs::BackLaws::joins_back, command_walks::proofs::Completeness::complete, crate::proofs::BackLaws::splits_and_joins))]
 pub fn plain_tool<S: Store, O: Sink, E: Sink>(
     alloc: Global,
     words: &[String],

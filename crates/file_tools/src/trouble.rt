@@ -4,7 +4,7 @@ ghost use Rattle.file_tools.specs.Causes.{of_load, of_piece};
 ghost use Rattle.file_tools.specs.Troubles.{status_of};
 ghost use Rattle.file_tools.specs.declared.trouble.Trouble.TheVariants as trouble;
 
-use crate::status::Status;
+use command_walks::Status;
 use mm_reader::MmErr;
 use mm_text::LoadErr;
 use piece_file::{Name, PieceErr, PieceFault};

@@ -4,6 +4,8 @@
 #[cfg(test)]
 mod drops;
 #[cfg(test)]
+mod edges;
+#[cfg(test)]
 mod matrices;
 #[cfg(test)]
 mod pieces;

@@ -7,7 +7,7 @@ use store_io::MemStore;
 
 const BANNER: &str = "%%MatrixMarket matrix array integer general\n";
 
-// A store that holds these texts, one behind the other, as the file `f`.
+// A store that holds these texts, one after the other, as the file `f`.
 fn store_of(alloc: Global, parts: &[&str]) -> Result<Option<MemStore>, AllocError> {
     let mut text = String::new(alloc);
     for part in parts {

@@ -14,7 +14,7 @@ const UPPER: &str = "%DESC 2 1 0 0 3 2 2 1 0 0 2\n2 2\n1\n2\n4\n5\n";
 
 const LOWER: &str = "%DESC 2 1 1 0 3 2 2 1 0 0 1\n1 2\n3\n6\n";
 
-// A file of this name, behind the banner of pieces.
+// A file of this name, after the banner of pieces.
 fn put(
     rt: &impl Abort,
     alloc: Global,
@@ -54,7 +54,7 @@ fn refuses(rt: &impl Abort, error: Option<PieceErr>, file: &str, line: u32, faul
     }
 }
 
-// What line 2 of the one piece of a prefix is, with nothing behind it.
+// What line 2 of the one piece of a prefix is, with nothing after it.
 #[test]
 fn second_lines(rt: HostRuntime) -> Result<(), Fail> {
     let alloc = rt.alloc();

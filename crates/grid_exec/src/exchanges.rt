@@ -1,167 +1,63 @@
-//! Exchange lines.
+//! The exchanges of a program are planned.
 
 ghost use Rattle.std.specs.Prelude.{◌≡◌};
 ghost use Rattle.pack_words.specs.GridState.{GridState};
 ghost use Rattle.pack_words.specs.GridPlans.{IsOf};
-ghost use Rattle.program_meaning.specs.Declarations.{Loads};
-ghost use Rattle.program_meaning.specs.Exchanges.{part_in};
-ghost use Rattle.program_meaning.specs.Programs.{line_done};
-ghost use Rattle.grid_exec.specs.Standing.{state_of, IsExchanged};
+ghost use Rattle.program_meaning.specs.Programs.{line_done, lines_done, no_loads};
+ghost use Rattle.line_plans.specs.Known.{IsKnown};
+ghost use Rattle.line_plans.specs.Standing.{state_of, IsExchanged};
+ghost use Rattle.grid_exec.specs.Sections.{IsLater, AreLater, AreKnown};
+ghost use Rattle.grid_exec.specs.Planning.{IsPlanned};
 
-use crate::declared::Declared;
-use crate::halt::Halt;
-use crate::moves::{plan_general, plan_trapezoid};
-use crate::points::{plan_receive, plan_send};
-use crate::scopes::{plan_barrier, plan_broadcast, plan_combine};
-use grid_lang::{Area, Line};
+use crate::err::ExecErr;
+use crate::stopping::stopped;
+use grid_lang::{Line, Numbered};
+use line_plans::{Declared, Halt, Kind, kind_of, plan_exchange};
 use msg_core::Plan;
-use pack_words::{FoldKind, RankOp};
-use scope_ops::Part;
+use pack_words::RankOp;
 use std::alloc::Global;
 
-// The part of an array that a line names.
-fn part_of(area: &Area) -> Part
-    ensures { result ≡ part_in area.now }
-{
-    Part {
-        array: area.array,
-        i: area.i,
-        j: area.j,
-        m: area.m,
-        n: area.n,
-    }
-}
-
-/// Plans an exchange line. Any other line is answered as out of memory: none is handed over.
-#[tactic(auto, unfolding(program_meaning::specs::Programs::line_done))]
-pub(crate) fn plan_exchange(
+// An exchange, or a result, which changes nothing.
+#[tactic(auto, using(crate::proofs::LaterLines::outcome_done))]
+fn plan_line(
     alloc: Global,
     declared: &Declared,
     plan: &mut Plan<RankOp>,
     line: &Line,
 ) -> Result<(), Halt>
     requires world { declared.now.shapes.ranks ≡ plan.old.ranks }
+    requires known { IsKnown declared.now line.now }
+    requires later { IsLater line.now }
     ensures ranks { plan.new.ranks ≡ plan.old.ranks }
-    ensures done { (loads : Loads) (state : GridState) → IsOf declared.now.shapes plan.old state →
-        IsExchanged result declared.now plan.new (line_done loads (state_of declared.now plan.old state) line.now) }
+    ensures done { (state : GridState) → IsOf declared.now.shapes plan.old state →
+        IsExchanged result declared.now plan.old plan.new state (line_done no_loads (state_of declared.now plan.old state) line.now) }
 {
-    match line {
-        Line::Send {
-            grid,
-            p,
-            q,
-            area,
-            rdest,
-            cdest,
-            tri,
-        } => plan_send(
-            alloc,
-            declared,
-            plan,
-            *grid,
-            (*p, *q),
-            *tri,
-            &part_of(area),
-            (*rdest, *cdest),
-        ),
-        Line::Recv {
-            grid,
-            p,
-            q,
-            area,
-            rsrc,
-            csrc,
-            tri,
-        } => plan_receive(
-            alloc,
-            declared,
-            plan,
-            *grid,
-            (*p, *q),
-            *tri,
-            &part_of(area),
-            (*rsrc, *csrc),
-        ),
-        Line::Bcast {
-            grid,
-            scope,
-            top,
-            rsrc,
-            csrc,
-            area,
-            tri,
-        } => plan_broadcast(
-            alloc,
-            declared,
-            plan,
-            *grid,
-            *scope,
-            *top,
-            *tri,
-            &part_of(area),
-            (*rsrc, *csrc),
-        ),
-        Line::Sum {
-            grid,
-            scope,
-            top,
-            dest,
-            area,
-        } => plan_combine(
-            alloc,
-            declared,
-            plan,
-            *grid,
-            *scope,
-            *top,
-            FoldKind::Sum,
-            &part_of(area),
-            None,
-            *dest,
-        ),
-        Line::Amx {
-            grid,
-            scope,
-            top,
-            dest,
-            area,
-            rc,
-        } => plan_combine(
-            alloc,
-            declared,
-            plan,
-            *grid,
-            *scope,
-            *top,
-            FoldKind::AbsMax,
-            &part_of(area),
-            *rc,
-            *dest,
-        ),
-        Line::Amn {
-            grid,
-            scope,
-            top,
-            dest,
-            area,
-            rc,
-        } => plan_combine(
-            alloc,
-            declared,
-            plan,
-            *grid,
-            *scope,
-            *top,
-            FoldKind::AbsMin,
-            &part_of(area),
-            *rc,
-            *dest,
-        ),
-        Line::Barrier { grid, scope } => plan_barrier(alloc, declared, plan, *grid, *scope),
-        Line::Gemr2d { mr } => plan_general(alloc, declared, plan, mr),
-        Line::Trmr2d { uplo, diag, mr } => {
-            plan_trapezoid(alloc, declared, plan, *uplo, *diag, mr)
-        }
-        _ => Err(Halt::NoMemory),
+    match kind_of(line) {
+        Kind::Exchange => plan_exchange(alloc, declared, plan, line),
+        _ => Ok(()),
     }
+}
+
+/// Plans the exchanges and passes the results over, one line after the other.
+#[tactic(auto, using(crate::proofs::LaterLines::first_known, crate::proofs::LaterLines::rest_known, crate::proofs::PlanSteps::on_the_way, crate::proofs::PlanSteps::stopped_there, crate::proofs::PlanSteps::all_there))]
+pub(crate) fn plan_exchanges(
+    alloc: Global,
+    declared: &Declared,
+    plan: &mut Plan<RankOp>,
+    lines: &[Numbered],
+) -> Result<(), ExecErr>
+    requires world { declared.now.shapes.ranks ≡ plan.old.ranks }
+    requires known { AreKnown declared.now lines.now }
+    requires later { AreLater lines.now }
+    ensures ranks { plan.new.ranks ≡ plan.old.ranks }
+    ensures done { (state : GridState) → IsOf declared.now.shapes plan.old state →
+        IsPlanned result declared.now plan.old plan.new state (lines_done no_loads (state_of declared.now plan.old state) lines.now) }
+{
+    for l in lines {
+        match plan_line(alloc, declared, plan, &l.line) {
+            Ok(()) => {}
+            Err(halt) => return Err(stopped(l.number, halt)),
+        }
+    }
+    Ok(())
 }

@@ -1,25 +1,27 @@
-//! Grid programs are planned and checked.
+//! Grid programs are planned, checked and run.
 #![tactic(auto)]
 
-mod array_line;
-mod arrays;
+mod beginning;
 mod check;
-mod declared;
+mod declaring;
 mod err;
 mod exchanges;
-mod grids;
-mod halt;
-mod lines;
-mod maps;
-mod matrices;
-mod moves;
-mod points;
-mod quiet;
-mod scopes;
-mod settled;
+mod filling;
+mod front;
+mod held;
+mod job;
+mod loading;
+mod nodes;
+mod plan;
+mod planning;
+mod running;
+mod stopping;
 mod summary;
 
 pub use check::check_program;
 pub use err::ExecErr;
+pub use job::{Job, JobParts};
+pub use plan::plan_program;
 pub use program_meaning::ExecFault;
+pub use running::{Mode, finish_by, run_program};
 pub use summary::Summary;

@@ -16,7 +16,7 @@ use Rattle.grid_lang.specs.declared.line.Numbered.{Numbered}
 use Rattle.grid_lang.specs.WordKinds.{Word}
 use Rattle.grid_lang.specs.Parts.{may_stand, reached_by}
 use Rattle.grid_lang.specs.Table.{keyword_of, part_of, line_of}
-use Rattle.grid_lang.specs.Programs.{State, starts_comment, passes_limit, with_line, keyword_step, words_step, line_fault, step, finished, grid_format}
+use Rattle.grid_lang.specs.Programs.{State, starts_comment, passes_limit, declared_by, first_word, with_line, keyword_step, words_step, line_fault, step, finished, grid_format}
 use Rattle.grid_lang.specs.ProgramParts.{part_of_line, AreOf, HasParts, HaveParts}
 use Rattle.grid_lang.proofs.KeywordLaws.{of_keyword}
 use Rattle.std.specs.Prelude.{IfOk}
@@ -38,13 +38,22 @@ may_ok : {A : Type 0} (b : Bool) (r : Result A LangFault) (next : A) → unless_
 may_ok true r next e = (refl, e)
 may_ok false r next e = absurd cc
 
--- a line that is skipped, or one line more
-record Adds (s next : State) (l : Numbered) : Type 0 where
+unless_within : {A : Type 0} (b : Bool) (r : Result A LangFault) (next : A) → unless_fault (when b Limit) r ≡ Ok next → b ≡ false
+unless_within true r next e = absurd cc
+unless_within false r next e = refl
+
+-- a line that is skipped, or one line more: how it is read, and what is declared after it
+pub record Adds (s next : State) (l : Numbered) : Type 0 where
   pub program : next.program ≡ s.program ++ l ∷ []
   pub reached : next.reached ≡ reached_by (part_of_line l.line)
   pub may : may_stand s.reached (part_of_line l.line) ≡ true
+  pub keyword : Keyword
+  pub words : List Word
+  pub read : line_of keyword s.declared words ≡ Ok l.line
+  pub within : passes_limit s.declared l.line ≡ false
+  pub declared : next.declared ≡ declared_by s.declared (first_word words) l.line
 
-abbrev Goes : State → State → Type 0
+abbrev pub Goes : State → State → Type 0
 Goes s next = (s ≡ next) ⊎ ((l : Numbered) × Adds s next l)
 
 same_state : {E : Type 0} (s next : State) → (let a : Result State E = Ok s in a ≡ Ok next) → s ≡ next
@@ -62,6 +71,11 @@ line_case n s next keyword ws (Ok line) is may e =
         program = sym (ap (λ (t : State). t.program) same);
         reached = sym (ap (λ (t : State). t.reached) same) ∙ ap reached_by part;
         may = ap (λ (p : Part). may_stand s.reached p) (sym part) ∙ may;
+        keyword = keyword;
+        words = ws;
+        read = is;
+        within = unless_within (passes_limit s.declared line) (Ok (with_line n s keyword ws line)) next e;
+        declared = sym (ap (λ (t : State). t.declared) same);
       },
     )
 
@@ -79,7 +93,7 @@ words_case : (n : ℕ) (s next : State) (ws : List Word) → words_step n s ws �
 words_case n s next [] e = inl (same_state {E = LangFault} s next e)
 words_case n s next (first ∷ ws) e = comment_case n s next first ws (starts_comment first) e
 
-step_goes : (n : ℕ) (s next : State) (text : List ℕ) → step n s text ≡ Ok next → Goes s next
+pub step_goes : (n : ℕ) (s next : State) (text : List ℕ) → step n s text ≡ Ok next → Goes s next
 unfolding step
 step_goes n s next text e = words_case n s next (words text) (unless_ok (line_fault n text) (words_step n s (words text)) next e)
 
@@ -102,7 +116,7 @@ all_added n s last [] same = record { more = []; program = ap (λ (t : State). t
 all_added n s last (line ∷ lines) leads = added_by s leads.0 last (step_goes n s leads.0 line leads.1) (all_added (suc n) leads.0 last lines leads.2)
 
 -- what may stand behind what
-opening_part : (p : Part) → may_stand Opening p ≡ true → p ≡ Opening
+pub opening_part : (p : Part) → may_stand Opening p ≡ true → p ≡ Opening
 opening_part Opening e = refl
 opening_part Declarations e = absurd cc
 opening_part Exchanges e = absurd cc
@@ -183,7 +197,7 @@ never_done Declarations program given same e = absurd cc
 never_done Exchanges program given same e = absurd cc
 never_done Results program given same e = absurd cc
 
-done : (last : Part) (program given : List Numbered) → finished last program ≡ Ok given → program ≡ given
+pub done : (last : Part) (program given : List Numbered) → finished last program ≡ Ok given → program ≡ given
 done Opening program given e = absurd cc
 done Declarations program given e = cc
 done Exchanges program given e = cc

@@ -17,3 +17,4 @@ pub mod ReaderViews
 pub mod Reading
 pub mod Answers
 pub mod ProgramParts
+pub mod Facts

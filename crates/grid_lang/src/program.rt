@@ -3,6 +3,7 @@ ghost use Rattle.std.specs.Prelude.{◌≡◌, List, IfOk, IfErr};
 ghost use Rattle.line_text.specs.Formats.{Refusal, read_text};
 ghost use Rattle.grid_lang.specs.Programs.{grid_format, IsProgramText, IsProgramFault, AreDecided, AreFirst};
 ghost use Rattle.grid_lang.specs.ProgramParts.{HasParts};
+ghost use Rattle.grid_lang.specs.Facts.{IsSound};
 ghost use Rattle.grid_lang.specs.Answers.{IsStop, IsRead, TellsFault, IsProgramOr, IsFaultOr};
 ghost use Rattle.grid_lang.specs.declared.fault.LangFault.{LangFault as Fault};
 ghost use Rattle.grid_lang.specs.declared.line.Numbered.{Numbered as NumberedLine};
@@ -24,22 +25,28 @@ pub struct Program {
 impl Model for Program {
     ghost use Rattle.std.specs.Prelude.{List};
     ghost use Rattle.grid_lang.specs.declared.line.Numbered.{Numbered};
+    ghost use Rattle.grid_lang.specs.Facts.{IsSound};
 
     ghost Value = { List Numbered };
 
     ghost view = { λ p. p.lines.items };
+
+    ghost invariant = { λ p. IsSound p.lines.items };
 }
 
 impl Program {
     pub(crate) fn new(lines: Vec<Numbered>) -> Program
+        requires { IsSound lines.items }
         ensures { result ≡ lines.items }
     {
         Program { lines }
     }
 
-    /// The lines.
+    /// The lines: `RANKS` first, then declarations, exchanges and results. Each grid and array of a line is declared before it
+    /// and is of the kind that the line takes.
     pub fn lines(&self) -> &[Numbered]
-        ensures { result.now ≡ self.now }
+        ensures is { result.now ≡ self.now }
+        ensures sound { IsSound self.now }
     {
         self.lines.as_slice()
     }

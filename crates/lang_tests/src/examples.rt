@@ -56,7 +56,7 @@ AMN g R1 S 1 0 v 1 1 2 2
 PRINT v 5
 ";
 
-const TRIANGLES: &str = "# parts with one triangle alone
+const TRIANGLES: &str = "# parts with only one triangle
 RANKS 2
 GRID w R 1 2
 MATRIX v 3 3

@@ -1,4 +1,4 @@
-//! Splitting, joining and moving a matrix are the plain move three times: laws alone.
+//! Splitting, joining and moving a matrix are the plain move three times: only laws.
 //!
 //! The functions of this crate do nothing: each `ensures` is a law.
 #![tactic(auto)]

@@ -17,7 +17,7 @@ use Rattle.mr2d.specs.Calls.{move_of, IsMoved, WaitsStay}
 use Rattle.std.proofs.lemmas.List.{length-map}
 use Rattle.pack_words.specs.RankOps.{RankState}
 use Rattle.move_tests.specs.MovePlans.{IsMovePlan}
-use Rattle.move_tests.proofs.Measures.{no_scratch}
+use Rattle.pack_words.proofs.Measures.{no_scratch}
 
 -- the empty plan
 pub none_yet : (v : ShapesView) (p : PlanView RankOp) → v.ranks ≡ p.ranks → p.steps ≡ [] → IsMovePlan v p

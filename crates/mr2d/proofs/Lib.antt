@@ -19,6 +19,7 @@ pub mod AppendLaws
 pub mod ArgLaws
 pub mod CallLaws
 pub mod FewLaws
+pub mod GiveLaws
 pub mod JobLaws
 pub mod HalfLaws
 pub mod LineLaws

@@ -6,18 +6,14 @@ use Rattle.block_meet.specs.declared.axis.Run.{Run}
 use Rattle.block_meet.specs.declared.side.Meet.{Meet}
 use Rattle.mr2d.specs.declared.parts.End.{End}
 use Rattle.mr2d.specs.declared.parts.End.TheVariants.{Source, Target}
-use Rattle.mr2d.specs.Pairs.{part_of_a, part_of_b, parts_of_a, parts_of_b}
+use Rattle.mr2d.specs.Pairs.{parts_of_a, parts_of_b}
 
 -- a run as it lies there
 abbrev pub span_on : End → Run → Span
 span_on Source r = record { first = r.start; place = r.la; len = r.len }
 span_on Target r = record { first = r.start; place = r.lb; len = r.len }
 
--- a rectangle as it lies there
-abbrev pub part_on : End → Meet → Region
-part_on Source t = part_of_a t
-part_on Target t = part_of_b t
-
+-- rectangles as they lie there
 abbrev pub parts_on : End → List Meet → List Region
 parts_on Source ms = parts_of_a ms
 parts_on Target ms = parts_of_b ms

@@ -2,11 +2,11 @@
 
 ghost use Rattle.std.specs.Prelude.{◌≡◌, IfOk, map, filter};
 ghost use Rattle.block_meet.specs.Meets.{rectangles, touches};
-ghost use Rattle.mr2d.specs.Ends.{span_on, part_on, parts_on};
+ghost use Rattle.mr2d.specs.Ends.{span_on, parts_on};
 ghost use Rattle.mr2d.specs.Jobs.{AreCommonRuns};
 
-use block_meet::{Meet, Run, meets_of};
-use pack_words::{Cut, Region, Regions, Shape, Span};
+use block_meet::Run;
+use pack_words::{Cut, Regions, Span};
 use std::alloc::{AllocError, Global};
 
 /// An end of a move: array A, whose words are taken, or array B, to which they go.
@@ -48,36 +48,7 @@ fn spans(alloc: Global, runs: &[Run], end: End) -> Result<Vec<Span>, AllocError>
     Ok(spans)
 }
 
-// A rectangle as it lies in the array.
-fn part(meet: &Meet, end: End) -> Region
-    ensures { result ≡ part_on end meet.now }
-{
-    let (li, lj) = match end {
-        End::Source => (meet.ai, meet.aj),
-        End::Target => (meet.bi, meet.bj),
-    };
-    Region {
-        li,
-        lj,
-        rows: meet.rows,
-        cols: meet.cols,
-        i0: meet.i0,
-        j0: meet.j0,
-    }
-}
-
-fn parts(alloc: Global, meets: &[Meet], end: End) -> Result<Regions, AllocError>
-    ensures { IfOk result (λ regions. regions ≡ map (part_on end) meets.now) }
-{
-    let mut list = Vec::with_capacity(alloc, meets.len())?;
-    for meet in meets {
-        list.push(part(meet, end))?;
-    }
-    Ok(Regions::new(list))
-}
-
-/// The rectangles of the runs that have a selected element, as they lie in the array. Of a whole shape the runs alone
-/// are kept, since every row run meets every column run.
+/// The rectangles of the runs that have a selected element, as they lie in the array. Only the runs are kept.
 pub(crate) fn regions(
     alloc: Global,
     cut: &Cut,
@@ -88,11 +59,7 @@ pub(crate) fn regions(
     ensures { IfOk result (λ regions. regions ≡ parts_on end
         (filter (touches cut.now) (rectangles runs.now.rows.items runs.now.columns.items))) }
 {
-    if let Shape::Ge = cut.shape {
-        let rows = spans(alloc, &runs.rows, end)?;
-        let columns = spans(alloc, &runs.columns, end)?;
-        return Ok(Regions::crossed(rows, columns));
-    }
-    let meets = meets_of(alloc, cut, &runs.rows, &runs.columns)?;
-    parts(alloc, &meets, end)
+    let rows = spans(alloc, &runs.rows, end)?;
+    let columns = spans(alloc, &runs.columns, end)?;
+    Regions::crossed(alloc, rows, columns, cut)
 }

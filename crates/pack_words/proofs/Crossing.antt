@@ -1,8 +1,8 @@
 -- What loops over row runs and column runs keep.
-use Rattle.std.specs.Prelude.{◌≡◌, ℕ, zero, suc, ◌+◌, ◌-◌, ◌*◌, ◌/◌, ◌%◌, ◌<◌, ◌≤◌, List, [], ◌∷◌, ◌++◌, length, take, drop, slice_index_or}
+use Rattle.std.specs.Prelude.{◌≡◌, ℕ, zero, suc, ◌+◌, ◌-◌, ◌*◌, ◌/◌, ◌%◌, ◌<◌, List, [], ◌∷◌, ◌++◌, length, slice_index_or}
 use Rattle.std.specs.List.{AllByRecursion}
-use Rattle.std.proofs.Common.{sym, ap, subst, ◌∙◌, refl, arith}
-use Rattle.std.proofs.lemmas.List.{append-nil, length-append, length-map, get_or-map, get_or_append_left, get_or-append_right, take_more, take-append-drop}
+use Rattle.std.proofs.Common.{sym, ap, ◌∙◌, arith}
+use Rattle.std.proofs.lemmas.List.{append-nil, length-append, length-map, get_or-map, get_or_append_left, get_or-append_right}
 use Rattle.std.proofs.Math.Nat.{mod-lt, div-lt_iff_lt-mul}
 use Rattle.std.proofs.lemmas.Nat.{div-add-mod'}
 use Rattle.std.proofs.lemmas.Grind.{flat_map-append}
@@ -28,56 +28,21 @@ all_at P [] i d all lt = absurd (omega arith)
 all_at P (x ∷ xs) zero d all lt = all.0
 all_at P (x ∷ xs) (suc i) d all lt = all_at P xs i d all.1 (omega arith)
 
-pub all_down : (P : Region → Type 0) (rows : List Span) (col : Span) (i : ℕ) → AllByRecursion P (down rows col) → i < length rows → P (crossing (slice_index_or rows i no_span) col)
-all_down P rows col i all lt = subst P (down_at rows col i lt) (all_at P (down rows col) i no_region all (let e = length-down rows col in omega arith))
-
-all_front : {X : Type 0} (P : X → Type 0) (xs ys : List X) → AllByRecursion P (xs ++ ys) → AllByRecursion P xs × AllByRecursion P ys
+pub all_front : {X : Type 0} (P : X → Type 0) (xs ys : List X) → AllByRecursion P (xs ++ ys) → AllByRecursion P xs × AllByRecursion P ys
 all_front P [] ys all = (tt, all)
 all_front P (x ∷ xs) ys all = let h = all_front P xs ys all.1 in ((all.0, h.0), h.1)
 
-pub all_product : (P : Region → Type 0) (rows cols : List Span) (k : ℕ) → AllByRecursion P (product rows cols) → k < length cols → AllByRecursion P (down rows (slice_index_or cols k no_span))
-unfolding product
-all_product P rows [] k all lt = absurd (omega arith)
-all_product P rows (c ∷ cs) zero all lt = (all_front P (down rows c) (product rows cs) all).0
-all_product P rows (c ∷ cs) (suc k) all lt = all_product P rows cs k (all_front P (down rows c) (product rows cs) all).1 (omega arith)
-
-spots_join : (cut : Cut) (xs ys : List Region) → spots cut (xs ++ ys) ≡ spots cut xs ++ spots cut ys
+pub spots_join : (cut : Cut) (xs ys : List Region) → spots cut (xs ++ ys) ≡ spots cut xs ++ spots cut ys
 unfolding spots
 spots_join cut xs ys = flat_map-append (region_spots cut) xs ys
 
-product_join : (rows xs ys : List Span) → product rows (xs ++ ys) ≡ product rows xs ++ product rows ys
+pub product_join : (rows xs ys : List Span) → product rows (xs ++ ys) ≡ product rows xs ++ product rows ys
 unfolding product
 product_join rows xs ys = flat_map-append (down rows) xs ys
 
-product_one : (rows : List Span) (col : Span) → product rows (col ∷ []) ≡ down rows col
+pub product_one : (rows : List Span) (col : Span) → product rows (col ∷ []) ≡ down rows col
 unfolding product
 product_one rows col = append-nil (down rows col)
-
--- one more column run
-pub product_more : (cut : Cut) (rows cols : List Span) (k : ℕ) → k < length cols → spots cut (product rows (take (k + 1) cols)) ≡ spots cut (product rows (take k cols)) ++ spots cut (down rows (slice_index_or cols k no_span))
-product_more cut rows cols k lt =
-    ap (λ cs. spots cut (product rows cs)) (take_more cols k no_span lt)
-    ∙ ap (spots cut) (product_join rows (take k cols) (slice_index_or cols k no_span ∷ []))
-    ∙ spots_join cut (product rows (take k cols)) (product rows (slice_index_or cols k no_span ∷ []))
-    ∙ ap (λ rs. spots cut (product rows (take k cols)) ++ spots cut rs) (product_one rows (slice_index_or cols k no_span))
-
-pub product_length : (cut : Cut) (rows cols : List Span) (k : ℕ) → k < length cols → length (spots cut (product rows (take (k + 1) cols))) ≡ length (spots cut (product rows (take k cols))) + length (spots cut (down rows (slice_index_or cols k no_span)))
-product_length cut rows cols k lt = ap length (product_more cut rows cols k lt) ∙ length-append (spots cut (product rows (take k cols))) (spots cut (down rows (slice_index_or cols k no_span)))
-
-pub product_room : (cut : Cut) (rows cols : List Span) (k : ℕ) → k < length cols → length (spots cut (product rows (take k cols))) + length (spots cut (down rows (slice_index_or cols k no_span))) ≤ length (spots cut (product rows cols))
-product_room cut rows cols k lt =
-    let whole : spots cut (product rows cols) ≡ spots cut (product rows (take (k + 1) cols)) ++ spots cut (product rows (drop (k + 1) cols)) =
-    ap (λ cs. spots cut (product rows cs)) (sym (take-append-drop (k + 1) cols))
-    ∙ ap (spots cut) (product_join rows (take (k + 1) cols) (drop (k + 1) cols))
-    ∙ spots_join cut (product rows (take (k + 1) cols)) (product rows (drop (k + 1) cols)) in
-    let a = ap length whole in
-    let b = length-append (spots cut (product rows (take (k + 1) cols))) (spots cut (product rows (drop (k + 1) cols))) in
-    let d = product_length cut rows cols k lt in
-    omega arith
-
-pub product_none : (cut : Cut) (rows : List Span) → spots cut (product rows []) ≡ []
-unfolding spots product
-product_none cut rows = refl
 
 down_lies : (cut : Cut) (lld count : ℕ) (rows : List Span) (col : Span) → AllByRecursion (LiesWithin cut.m lld) rows → LiesWithin cut.n count col → AllInCut cut (down rows col) × AllByRecursion (IsInShape lld count) (down rows col)
 unfolding down

@@ -4,10 +4,12 @@ pub mod ByPlace
 pub mod CellsLemmas
 pub mod Columns
 pub mod CopyLaws
+pub mod CopyWalk
 pub mod Crossing
 pub mod Going
 pub mod Halves
 pub mod Kept
+pub mod Measures
 pub mod Once
 pub mod PartLaws
 pub mod Places
@@ -16,4 +18,8 @@ pub mod Rooms
 pub mod Runs
 pub mod Shaped
 pub mod Shown
+pub mod Touching
+pub mod Untouched
+pub mod Walking
 pub mod WholeLaws
+pub mod Wholes

@@ -19,7 +19,7 @@ words_of_held hs = map (λ h. cast_signed w32 h.place) hs
 abbrev pub held_at : List ℤ → ℕ → ℕ → Held
 held_at ws n k = record { value = slice_index_or ws k (pos 0); place = cast_unsigned w32 (slice_index_or ws (n + k) (pos 0)) }
 
--- the k-th element of a message of values alone: its place is taken as 0
+-- the k-th element of a message of values only: its place is taken as 0
 abbrev pub value_at : List ℤ → ℕ → Held
 value_at ws k = record { value = slice_index_or ws k (pos 0); place = 0 }
 
@@ -34,7 +34,7 @@ element_of hs k = slice_index_or hs k no_held
 abbrev pub value_of : List Held → ℕ → ℤ
 value_of hs k = (element_of hs k).value
 
--- the message of the first n elements with their places, and that of their values alone
+-- the message of the first n elements with their places, and that of their values only
 abbrev pub pairs_message : ℕ → List Held → List ℤ
 pairs_message n hs = values_of_held (take n hs) ++ words_of_held (take n hs)
 
@@ -53,11 +53,11 @@ loaded_with ws place n hs = first_made (λ k. record { value = int_wrap w32 (sli
 abbrev pub joined_with : (Held → Held → Held) → ℕ → List Held → List ℤ → List Held
 joined_with f n hs ws = first_made (λ k. f (slice_index_or hs k no_held) (held_at ws n k)) n hs
 
--- or added to those of a message of values alone
+-- or added to those of a message of values only
 abbrev pub added_with : ℕ → List Held → List ℤ → List Held
 added_with n hs ws = first_made (λ k. sum_joined (slice_index_or hs k no_held) (value_at ws k)) n hs
 
--- its first n elements replaced by those of a message with places, or of values alone
+-- its first n elements replaced by those of a message with places, or of values only
 abbrev pub replaced_by_pairs : ℕ → List Held → List ℤ → List Held
 replaced_by_pairs n hs ws = first_made (held_at ws n) n hs
 

@@ -62,7 +62,7 @@ FindsBy (Send to len) r s = Unit {0}
 FindsBy (Recv from len) r s = IsSomeAnd (slice_get (s.waits from r) 0) (HasLength len)
 FindsBy Local r s = Unit {0}
 
--- the operation is one of arrays and messages alone, and where it receives it finds a message of its length
+-- the operation is one of arrays and messages only, and where it receives it finds a message of its length
 abbrev pub Finds : RankOp → ℕ → GridState → Type 0
 Finds (Put to a rs cut) r s = Unit {0}
 Finds (Get from a rs cut) r s = IsSomeAnd (slice_get (s.waits from r) 0) (HasLength (selected_count cut rs))

@@ -13,4 +13,5 @@ pub mod Products
 pub mod RankLaws
 pub mod RankOps
 pub mod Selected
+pub mod Walks
 pub mod WholeRegions

@@ -66,7 +66,7 @@ fn join_pairs<C: Combine>(held: &mut [Held], len: usize, words: &[i32])
     }
 }
 
-// Adds those of a message of values alone to the first `len` elements, one by one.
+// Adds those of a message of values only to the first `len` elements, one by one.
 fn add_values(held: &mut [Held], len: usize, words: &[i32])
     requires held { len ≤ length held.old }
     requires words { length words.now ≡ len }
@@ -108,7 +108,7 @@ fn replace_pairs(held: &mut [Held], len: usize, words: &[i32])
     }
 }
 
-// The same for a message of values alone.
+// The same for a message of values only.
 fn replace_values(held: &mut [Held], len: usize, words: &[i32])
     requires held { len ≤ length held.old }
     requires words { length words.now ≡ len }

@@ -29,6 +29,19 @@ fn rows_of(cut: &Cut, j: u32) -> (u32, u32)
     }
 }
 
+// As `selected_part`, of a trapezoid: apart, so that loops over columns of whole shapes stay short.
+#[inline(never)]
+fn trapezoid_part(cut: &Cut, region: &Region, v: u32) -> (u32, u32)
+    requires cut { IsInCut cut.now region.now }
+    requires column { v < region.now.cols }
+    ensures { AreSelectedRows cut.now region.now v result.0 result.1 }
+{
+    let (first, last) = rows_of(cut, region.j0 + v);
+    let first = first.saturating_sub(region.i0).min(region.rows);
+    let last = last.saturating_sub(region.i0).min(region.rows);
+    (first, last)
+}
+
 /// The selected rows of the region's column `v` are those from the first number to before the second, counted from the
 /// region's first row.
 #[inline]
@@ -40,10 +53,7 @@ pub fn selected_part(cut: &Cut, region: &Region, v: u32) -> (u32, u32)
     if let Shape::Ge = cut.shape {
         return (0, region.rows);
     }
-    let (first, last) = rows_of(cut, region.j0 + v);
-    let first = first.saturating_sub(region.i0).min(region.rows);
-    let last = last.saturating_sub(region.i0).min(region.rows);
-    (first, last)
+    trapezoid_part(cut, region, v)
 }
 
 /// The words of the region's column `v` into `out` from `at` on. The words before stay. Gives where they end.

@@ -63,10 +63,12 @@ pub fn copy(from: &LocalArray, sources: &Regions, to: &mut LocalArray, targets: 
 {
     let _lead = from.lld();
     let _other = to.lld();
-    let known = sources.len().min(targets.len());
-    for k in 0..known {
-        let source = sources.at(k);
-        let target = targets.at(k);
+    let mut before = sources.walk();
+    let mut after = targets.walk();
+    while let Some(source) = before.next() {
+        let Some(target) = after.next() else {
+            return;
+        };
         copy_region(from, &source, to, &target, cut);
     }
 }

@@ -3,9 +3,12 @@
 
 mod accumulator;
 mod array_err;
+mod boxed_regions;
 mod column;
 mod coords;
 mod copying;
+mod counted;
+mod crossed;
 mod cut;
 mod diag;
 mod elements;
@@ -16,6 +19,7 @@ mod local_array;
 mod packing;
 mod part_laws;
 mod parts;
+mod product_laws;
 mod products;
 mod rank_mem;
 mod rank_op;
@@ -24,10 +28,13 @@ mod regions;
 mod shape;
 mod shapes;
 mod span;
+mod touched;
 mod uplo;
+mod walk;
 mod written;
 
 pub use array_err::ArrayErr;
+pub use boxed_regions::BoxedRegions;
 pub use coords::Coords;
 pub use cut::{Cut, selected};
 pub use diag::Diag;
@@ -39,7 +46,7 @@ pub use grid_laws::{
 pub use local_array::LocalArray;
 pub use packing::{apart_names_once, count, pack, unpack, unpack_after_pack};
 pub use part_laws::{parts_are_regions, parts_by_place};
-pub use products::products_lie;
+pub use product_laws::{nothing_is_lost, products_lie, touching_tells};
 pub use rank_mem::RankMem;
 pub use rank_op::RankOp;
 pub use region::Region;
@@ -48,3 +55,4 @@ pub use shape::Shape;
 pub use shapes::Shapes;
 pub use span::Span;
 pub use uplo::Uplo;
+pub use walk::Walk;

@@ -117,9 +117,9 @@ impl Node for RankMem {
             copy_between(
                 &mut self.arrays,
                 *from_array as usize,
-                from_regions,
+                from_regions.regions(),
                 *to_array as usize,
-                to_regions,
+                to_regions.regions(),
                 cut,
             );
         } else if let RankOp::LoadAcc {

@@ -1,15 +1,18 @@
 //! What a rank does in one step.
 
-ghost use Rattle.std.specs.Prelude.{◌≡◌, ◌≤◌, ◌^◌};
+ghost use Rattle.std.specs.Prelude.{◌≡◌, ◌≤◌, ◌^◌, IfOk};
+ghost use Rattle.pack_words.specs.declared.rank_op.RankOp.TheVariants.{Copy};
 ghost use Rattle.pack_words.specs.Accumulators.{message_words};
 ghost use Rattle.pack_words.specs.RankOps.{elements_used, IsWellMade, pulse_kind};
 
+use crate::boxed_regions::BoxedRegions;
 use crate::coords::Coords;
 use crate::cut::Cut;
 use crate::fold_kind::FoldKind;
 use crate::region::Region;
 use crate::regions::Regions;
 use msg_core::{Kind, Step};
+use std::alloc::{AllocError, Global};
 
 /// An operation of a rank. Ranks and arrays count from 0.
 #[derive(Debug, Drop)]
@@ -31,9 +34,9 @@ pub enum RankOp {
     /// Packs words from one array and unpacks them into another.
     Copy {
         from_array: u32,
-        from_regions: Regions,
+        from_regions: BoxedRegions,
         to_array: u32,
-        to_regions: Regions,
+        to_regions: BoxedRegions,
         cut: Cut,
     },
     /// Loads the elements of the region, a whole matrix, into the accumulator, each with the place.
@@ -49,7 +52,7 @@ pub enum RankOp {
         pairs: bool,
     },
     /// Receives elements and joins them with the first `len` of the accumulator, one by one. The message of a sum has
-    /// values alone.
+    /// values only.
     JoinAcc {
         from: u32,
         len: u32,
@@ -158,6 +161,59 @@ impl Step for RankOp {
 }
 
 impl RankOp {
+    /// The copy between two arrays, whose lists of regions go onto the heap.
+    pub fn copy(
+        alloc: Global,
+        from_array: u32,
+        from_regions: Regions,
+        to_array: u32,
+        to_regions: Regions,
+        cut: Cut,
+    ) -> Result<RankOp, AllocError>
+        ensures { IfOk result (λ op. op ≡ Copy from_array from_regions to_array to_regions cut) }
+    {
+        Ok(RankOp::Copy {
+            from_array,
+            from_regions: BoxedRegions::new(alloc, from_regions)?,
+            to_array,
+            to_regions: BoxedRegions::new(alloc, to_regions)?,
+            cut,
+        })
+    }
+
+    /// The same operation, whose kind is told in constant time from now on where its regions are made of runs, or are one
+    /// region, the whole of its cut. It takes no memory.
+    pub fn counted(self) -> RankOp
+        requires { IsWellMade self }
+        ensures { result ≡ self }
+    {
+        match self {
+            RankOp::Put {
+                to,
+                array,
+                regions,
+                cut,
+            } => RankOp::Put {
+                to,
+                array,
+                regions: regions.counted(&cut),
+                cut,
+            },
+            RankOp::Get {
+                from,
+                array,
+                regions,
+                cut,
+            } => RankOp::Get {
+                from,
+                array,
+                regions: regions.counted(&cut),
+                cut,
+            },
+            other => other,
+        }
+    }
+
     /// How many elements of the accumulator the operation uses.
     pub fn elements(&self) -> u32
         requires { IsWellMade self.now }

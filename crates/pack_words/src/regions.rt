@@ -1,134 +1,170 @@
 //! Lists of regions that know how many elements they select.
 
-ghost use Rattle.std.specs.Prelude.{◌≡◌, ◌≤◌, ◌<◌, ◌^◌, [], ◌∷◌, length, slice_index_or};
+ghost use Rattle.std.specs.Prelude.{◌≡◌, ◌↔◌, ◌≤◌, ◌^◌, [], ◌∷◌, length, slice_index_or, IsTrue, IfOk};
 ghost use Rattle.pack_words.specs.Packing.{no_region, AllInCut, AllInArray, selected_count, packed, unpacked};
-ghost use Rattle.pack_words.specs.Products.{product};
-ghost use Rattle.pack_words.specs.HeldRegions.{AreFewRuns};
+ghost use Rattle.pack_words.specs.Products.{touched_product, AreFewRuns};
+ghost use Rattle.pack_words.specs.HeldRegions.{regions_held, cut_of_size, IsCounted};
 
+use crate::crossed::Crossed;
 use crate::cut::Cut;
 use crate::held_regions::HeldRegions;
 use crate::local_array::LocalArray;
 use crate::packing::{count, pack, unpack};
-use crate::products::{count_product, crossing_count, nth_crossing, pack_product, unpack_product};
 use crate::region::Region;
+use crate::shape::Shape;
 use crate::span::Span;
+use crate::walk::Walk;
+use std::alloc::{AllocError, Global};
 use std::marker::Model;
-
-// How many elements a list of regions selects of a cut.
-#[derive(Clone, Copy, Debug)]
-struct Counted {
-    cut: Cut,
-    count: u32,
-}
 
 /// A list of regions. Contracts see the list.
 #[derive(Debug, Drop)]
 pub struct Regions {
     held: HeldRegions,
-    counted: Option<Counted>,
 }
 
 impl Model for Regions {
-    ghost use Rattle.std.specs.Prelude.{◌≡◌, List, IfSome};
+    ghost use Rattle.std.specs.Prelude.{List};
     ghost use Rattle.pack_words.specs.declared.region.Region.{Region};
-    ghost use Rattle.pack_words.specs.Packing.{selected_count};
-    ghost use Rattle.pack_words.specs.HeldRegions.{regions_held, HaveFewRuns};
+    ghost use Rattle.pack_words.specs.HeldRegions.{regions_held, IsCounted};
 
     ghost Value = { List Region };
 
     ghost view = { λ r. regions_held r.held };
 
-    ghost invariant = { λ r. HaveFewRuns r.held ×
-        IfSome r.counted (λ k. k.count ≡ selected_count k.cut (regions_held r.held)) };
+    ghost invariant = { λ r. IsCounted r.held };
 }
 
-#[inline]
-fn size(list: &[Region]) -> usize
-    ensures { result ≡ length list.now }
+// The cut of that shape that has the region's size.
+fn sized_cut(shape: Shape, region: &Region) -> Cut
+    ensures { result ≡ cut_of_size shape region.now }
 {
-    list.len()
+    Cut {
+        shape,
+        m: region.rows,
+        n: region.cols,
+    }
 }
 
-#[inline]
-fn nth(list: &[Region], k: usize) -> Region
-    requires { k < length list.now }
-    ensures { result ≡ slice_index_or list.now k no_region }
+// How many elements the region selects, where `known` is the number for the cut that has its size.
+fn count_whole(shape: Shape, region: &[Region; 1], known: u32, cut: &Cut) -> u32
+    requires cut { AllInCut cut.now region.now }
+    requires most { selected_count cut.now region.now ≤ 2 ^ 26 }
+    requires known { known ≡ selected_count (cut_of_size shape (slice_index_or region.now 0 no_region)) region.now }
+    ensures { result ≡ selected_count cut.now region.now }
 {
-    list[k]
+    let whole = sized_cut(shape, &region[0]);
+    if whole == *cut {
+        return known;
+    }
+    count(region, cut)
+}
+
+// The region with its count, which is kept where it is the whole of the cut.
+fn whole_counted(region: [Region; 1], cut: &Cut, count: u32) -> HeldRegions
+    requires { count ≡ selected_count cut.now region }
+    ensures same { regions_held result ≡ region }
+    ensures counted { IsCounted result }
+{
+    let whole = sized_cut(cut.shape, &region[0]);
+    if whole == *cut {
+        return HeldRegions::Whole {
+            shape: cut.shape,
+            region,
+            count,
+        };
+    }
+    HeldRegions::One(region)
+}
+
+// The same with the count, where there is room for it.
+fn with_count(held: HeldRegions, cut: &Cut, count: u32) -> HeldRegions
+    requires { count ≡ selected_count cut.now (regions_held held) }
+    ensures same { regions_held result ≡ regions_held held }
+    ensures counted { IsCounted result }
+{
+    match held {
+        HeldRegions::One(region) => whole_counted(region, cut, count),
+        HeldRegions::Whole {
+            shape: _,
+            region,
+            count: _,
+        } => whole_counted(region, cut, count),
+        HeldRegions::Listed(list) => HeldRegions::Listed(list),
+        HeldRegions::Crossed(mut crossed) => {
+            crossed.keep(cut, count);
+            HeldRegions::Crossed(crossed)
+        }
+    }
 }
 
 impl Regions {
-    /// These regions. It takes no memory.
+    /// These regions. It takes no memory, and keeps no count.
     pub fn new(list: Vec<Region>) -> Regions
         ensures { result ≡ list.items }
     {
         Regions {
             held: HeldRegions::Listed(list),
-            counted: None,
         }
     }
 
-    /// This region alone. It takes no memory.
+    /// Only this region. It takes no memory.
     pub fn one(region: Region) -> Regions
         ensures { result ≡ region ∷ [] }
     {
         Regions {
             held: HeldRegions::One([region]),
-            counted: None,
         }
     }
 
-    /// The rectangles of every row run by every column run, by columns: at most 2^24 runs each. It takes no memory, and
-    /// keeps the runs alone.
-    pub fn crossed(rows: Vec<Span>, cols: Vec<Span>) -> Regions
+    /// Those rectangles of every row run by every column run that have a selected element of the cut, by columns: at most
+    /// 2^24 runs each. It keeps only the runs.
+    pub fn crossed(
+        alloc: Global,
+        rows: Vec<Span>,
+        cols: Vec<Span>,
+        cut: &Cut,
+    ) -> Result<Regions, AllocError>
         requires { AreFewRuns rows.items cols.items }
-        ensures { result ≡ product rows.items cols.items }
+        ensures { IfOk result (λ regions. regions ≡ touched_product cut.now rows.items cols.items) }
     {
+        let crossed = Box::new(alloc, Crossed::new(rows, cols, *cut))?;
+        Ok(Regions {
+            held: HeldRegions::Crossed(crossed),
+        })
+    }
+
+    /// The same regions, whose count for this cut is known from now on where they are made of runs, or are one region, the
+    /// whole of the cut. It takes no memory.
+    pub fn counted(self, cut: &Cut) -> Regions
+        requires cut { AllInCut cut.now self }
+        requires most { selected_count cut.now self ≤ 2 ^ 26 }
+        ensures { result ≡ self }
+    {
+        let count = self.count(cut);
+        let Regions { held } = self;
         Regions {
-            held: HeldRegions::Crossed { rows, cols },
-            counted: None,
+            held: with_count(held, cut, count),
         }
     }
 
-    // Counts them.
-    fn count_anew(&self, cut: &Cut) -> u32
+    /// How many elements they select: in constant time where the count for this cut is known, run by run where they are made
+    /// of runs and the shapes are whole, else column by column.
+    pub fn count(&self, cut: &Cut) -> u32
         requires cut { AllInCut cut.now self.now }
         requires most { selected_count cut.now self.now ≤ 2 ^ 26 }
         ensures { result ≡ selected_count cut.now self.now }
     {
         match &self.held {
             HeldRegions::One(region) => count(region, cut),
+            HeldRegions::Whole {
+                shape,
+                region,
+                count: known,
+            } => count_whole(*shape, region, *known, cut),
             HeldRegions::Listed(list) => count(list, cut),
-            HeldRegions::Crossed { rows, cols } => count_product(rows, cols, cut),
+            HeldRegions::Crossed(crossed) => crossed.count(cut),
         }
-    }
-
-    /// The same regions, whose count for this cut is known from now on.
-    pub fn counted(self, cut: &Cut) -> Regions
-        requires cut { AllInCut cut.now self }
-        requires most { selected_count cut.now self ≤ 2 ^ 26 }
-        ensures { result ≡ self }
-    {
-        let count = self.count_anew(cut);
-        let Regions { held, counted: _ } = self;
-        Regions {
-            held,
-            counted: Some(Counted { cut: *cut, count }),
-        }
-    }
-
-    /// How many elements they select, in constant time for the cut for which they were counted.
-    pub fn count(&self, cut: &Cut) -> u32
-        requires cut { AllInCut cut.now self.now }
-        requires most { selected_count cut.now self.now ≤ 2 ^ 26 }
-        ensures { result ≡ selected_count cut.now self.now }
-    {
-        if let Some(counted) = &self.counted {
-            if counted.cut == *cut {
-                return counted.count;
-            }
-        }
-        self.count_anew(cut)
     }
 
     /// The words of the selected elements, region by region, each by columns, into `out`, which has their number.
@@ -140,8 +176,13 @@ impl Regions {
     {
         match &self.held {
             HeldRegions::One(region) => pack(array, region, cut, out),
+            HeldRegions::Whole {
+                shape: _,
+                region,
+                count: _,
+            } => pack(array, region, cut, out),
             HeldRegions::Listed(list) => pack(array, list, cut, out),
-            HeldRegions::Crossed { rows, cols } => pack_product(array, rows, cols, cut, out),
+            HeldRegions::Crossed(crossed) => crossed.pack(array, cut, out),
         }
     }
 
@@ -154,33 +195,36 @@ impl Regions {
     {
         match &self.held {
             HeldRegions::One(region) => unpack(array, region, cut, words),
+            HeldRegions::Whole {
+                shape: _,
+                region,
+                count: _,
+            } => unpack(array, region, cut, words),
             HeldRegions::Listed(list) => unpack(array, list, cut, words),
-            HeldRegions::Crossed { rows, cols } => unpack_product(array, rows, cols, cut, words),
+            HeldRegions::Crossed(crossed) => crossed.unpack(array, cut, words),
         }
     }
 
-    /// The number of regions.
-    #[inline]
-    pub fn len(&self) -> usize
-        ensures { result ≡ length self.now }
+    /// A walk over the regions.
+    pub fn walk(&self) -> Walk<'_>
+        ensures { result ≡ self.now }
     {
         match &self.held {
-            HeldRegions::One(region) => size(region),
-            HeldRegions::Listed(list) => list.len(),
-            HeldRegions::Crossed { rows, cols } => crossing_count(rows, cols),
+            HeldRegions::One(region) => Walk::listed(region),
+            HeldRegions::Whole {
+                shape: _,
+                region,
+                count: _,
+            } => Walk::listed(region),
+            HeldRegions::Listed(list) => Walk::listed(list),
+            HeldRegions::Crossed(crossed) => crossed.walk(),
         }
     }
 
-    /// Region `k`, counted from 0.
-    #[inline]
-    pub fn at(&self, k: usize) -> Region
-        requires { k < length self.now }
-        ensures { result ≡ slice_index_or self.now k no_region }
+    /// Whether there is no region.
+    pub fn is_empty(&self) -> bool
+        ensures { IsTrue result ↔ (length self.now ≡ 0) }
     {
-        match &self.held {
-            HeldRegions::One(region) => nth(region, k),
-            HeldRegions::Listed(list) => nth(list, k),
-            HeldRegions::Crossed { rows, cols } => nth_crossing(rows, cols, k),
-        }
+        self.walk().next().is_none()
     }
 }

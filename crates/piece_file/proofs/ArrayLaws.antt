@@ -30,7 +30,7 @@ next p = Ok p
 place_is : (p q : at.Place) → next p ≡ next q → q ≡ p
 place_is p q e = let s : p ≡ q = cc in sym s
 
--- behind a value line come values
+-- after a value line come values
 value_next : (header : Header) (stored : List ℤ) (ws : List (List ℕ)) (blank full : Bool) (q : at.Place)
     → cond blank (Ok (at.AtValues header stored)) (cond full (Err (TooMany (wanted header))) (matrix.then_at (λ v. at.AtValues header (stored ++ v ∷ [])) (value_words width32 header.symmetry ws))) ≡ Ok q
     → (more : List ℤ) × (q ≡ at.AtValues header more)

@@ -1,14 +1,8 @@
 -- The words of a head's line as numbers.
-use Rattle.std.proofs.Common.{◌≡◌, ◌≢◌, ℕ, ◌+◌, ◌^◌, ◌<◌, ◌≤◌, false, ℤ, pos, negsuc, List, [], ◌∷◌, ◌++◌, length, take, get_or, set, take_all, Option, Some, None, refl, sym, ap, ◌∙◌, append_assoc, append-nil, length-append, length-take, arith}
+use Rattle.std.proofs.Common.{◌≡◌, ◌≢◌, ℕ, ◌+◌, ◌<◌, ◌≤◌, ℤ, pos, List, [], ◌∷◌, ◌++◌, length, take, get_or, set, take_all, Option, Some, None, refl, sym, ap, ◌∙◌, append_assoc, append-nil, length-append, length-take, arith}
 use Rattle.std.specs.Option.{option_map}
-use Rattle.std.proofs.lemmas.Bool.{le-ltb}
 use Rattle.std.proofs.lemmas.List.{take_more_set}
-use Rattle.std.specs.Prelude.{FitsSigned}
-use Rattle.std.specs.Int.{w32}
 use Rattle.line_text.specs.Numbers.{signed_number}
-use Rattle.line_text.specs.Integers.{IsPast, IsOut}
-use Rattle.mm_grammar.specs.Width.{width32, is_in_range}
-use Rattle.mm_grammar.proofs.Ranges.{i32_in_range}
 use Rattle.piece_grammar.specs.Desc.{in_32_bits, before_numbers, numbers_of, desc_numbered, desc_if_all}
 
 -- ---- one word after the other

@@ -80,7 +80,7 @@ refuses_next (Bad name line fault) files prefix ps turn same all few named r = r
 }
 refuses_next NoMemory files prefix ps turn same all few named r = tt
 
--- ---- the end of the input behind the pieces that were read
+-- ---- the end of the input after the pieces that were read
 
 abbrev pub IsEndedBehind : List grammar.Piece → (left : List ℕ) → Type 0
 IsEndedBehind [] left = Unit {0}

@@ -31,7 +31,7 @@ pub bad_end : (turn : Turn) (n : ℕ) (place : Place) (lines : List Line) (fault
 unfolding formats.read_on
 bad_end turn n place lines fault none e = rw (none, e) refl
 
--- ---- a line that is too long, or too far behind in the file
+-- ---- a line that is too long, or too far on in the file
 
 fault_by : Bool → Bool → Bool → Option MatrixFault
 fault_by far long text = cond far (Some FileLong) (cond long (Some LineLong) (cond text None (Some NotText)))
@@ -83,9 +83,9 @@ pub part_bad : (turn : Turn) (place : Place) (old new : ReaderView) (before afte
 part_bad turn place old new before after text s fault line whole moves same steps e number =
     bad_line turn old.number place (line_of new.text new.before) before after fault whole (here turn place text new s same moves.near steps ∙ e) ∙ ap (λ (n : ℕ). Err (record { line = n; fault = fault })) (sym number)
 
--- ---- parts one behind another
+-- ---- parts one after another
 
--- what stops behind a part that was passed stops before it
+-- what stops after a part that was passed stops before it
 pub stops_then : (stop : Stop) (turn : Turn) (n m : ℕ) (place next : Place) (lines rest : List Line) → read_on turn n place lines ≡ read_on turn m next rest → Stops stop turn m next rest → Stops stop turn n place lines
 stops_then (Bad r) turn n m place next lines rest e s = e ∙ s
 stops_then Failed turn n m place next lines rest e s = tt

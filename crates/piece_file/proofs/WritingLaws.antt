@@ -1,15 +1,12 @@
 -- A piece that was put part by part.
-use Rattle.std.proofs.Common.{◌≡◌, ℕ, ◌+◌, ◌<◌, ◌≤◌, List, [], ◌∷◌, ◌++◌, length, take, drop, get_or, sym, ap, subst, ◌∙◌, append_assoc, append-nil, zero, suc, ◌*◌, ◌^◌, Bool, true, false, cond, ℤ, refl, arith}
+use Rattle.std.proofs.Common.{◌≡◌, ℕ, ◌+◌, ◌<◌, ◌≤◌, List, [], ◌∷◌, ◌++◌, length, take, drop, get_or, sym, ap, subst, ◌∙◌, append-nil, zero, suc, ◌*◌, ◌^◌, Bool, true, false, cond, ℤ, refl, arith}
 use Rattle.std.specs.Fmt.{decimal}
 use Rattle.std.specs.List.{flat_map}
 use Rattle.std.proofs.lemmas.Grind.{flat_map-append}
 use Rattle.std.proofs.lemmas.List.{take_more, take_all, take-append-drop}
-use Rattle.store_io.specs.Outside.{Outside, WritesOn}
-use Rattle.line_text.specs.Lines.{ended, text_of_lines}
+use Rattle.store_io.specs.Outside.{Outside}
 use Rattle.text_io.specs.Writing.{PutsOn, PutsFront}
-use Rattle.text_io.proofs.Putting.{puts_then, front_then, front_more, pours_all, pours_front}
-use Rattle.mm_grammar.specs.Matrix.{Matrix}
-use Rattle.mm_grammar.specs.PlainText.{banner_line, cell_lines}
+use Rattle.text_io.proofs.Putting.{puts_then, front_then, front_more}
 use Rattle.std.specs.Prelude.{max, FitsSigned, ◌==◌}
 use Rattle.std.specs.List.{AllByRecursion}
 use Rattle.std.specs.Int.{w32}
@@ -23,7 +20,7 @@ use Rattle.mm_text.specs.LocalMatrix.{local_matrix}
 use Rattle.piece_grammar.specs.Head.{Head, IsHead, layout_of, array_columns, array_of}
 use Rattle.piece_grammar.proofs.PlainPieceLaws.{reads_back}
 use Rattle.piece_file.specs.PieceView.{array_piece}
-use Rattle.piece_grammar.specs.PlainPiece.{spaced, desc_line, piece_text, IsWhole, ReadsBack}
+use Rattle.piece_grammar.specs.PlainPiece.{spaced, piece_text, IsWhole, ReadsBack}
 
 -- a space and a number
 pub puts_spaced : (a b c : Outside) (p q r : List ℕ) (n : ℕ) → PutsOn a b p q (32 ∷ []) → b.output ≡ a.output → PutsOn b c q r (decimal n) → PutsOn a c p r (spaced n)
@@ -56,45 +53,6 @@ front_number old mid new p q numbers i n lt is first same then =
 
 pub all_numbers : (numbers : List ℕ) (i : ℕ) → length numbers ≤ i → take i numbers ≡ numbers
 all_numbers numbers i le = take_all i numbers le
-
--- ---- the whole text
-
-abbrev pub head_text : Head → List ℕ
-head_text h = ended banner_line ++ ended (desc_line h)
-
-regrouped : (h : Head) (m : Matrix) → head_text h ++ text_of_lines (cell_lines m) ≡ piece_text h m
-unfolding piece_text
-regrouped h m = append_assoc (ended banner_line) (ended (desc_line h)) (text_of_lines (cell_lines m))
-
-both : (a b c : Outside) (o p q : List ℕ) (h : Head) (m : Matrix) → o ≡ [] → PutsOn a b o p (head_text h) → b.output ≡ a.output → PutsOn b c p q (text_of_lines (cell_lines m)) → PutsOn a c [] q (piece_text h m)
-both a b c o p q h m none head same body =
-    let P : List ℕ → Type 0 = λ s. PutsOn a c s q (piece_text h m) in
-    let Q : List ℕ → Type 0 = PutsOn a c o q in
-    subst P none (subst Q (regrouped h m) (puts_then a b c o p q _ _ head same body))
-
--- of the head a front
-pub front_head : (a b : Outside) (o : List ℕ) (h : Head) (m : Matrix) → o ≡ [] → PutsFront a b (o ++ head_text h) → PutsFront a b (piece_text h m)
-front_head a b o h m none first =
-    let P : List ℕ → Type 0 = λ s. PutsFront a b (s ++ piece_text h m) in
-    let Q : List ℕ → Type 0 = λ t. PutsFront a b (o ++ t) in
-    subst P none (subst Q (regrouped h m) (front_more a b o _ _ first))
-
--- of the cells a front
-pub front_cells : (a b c : Outside) (o p : List ℕ) (h : Head) (m : Matrix) → o ≡ [] → PutsOn a b o p (head_text h) → b.output ≡ a.output → PutsFront b c (p ++ text_of_lines (cell_lines m)) → PutsFront a c (piece_text h m)
-front_cells a b c o p h m none head same body =
-    let P : List ℕ → Type 0 = λ s. PutsFront a c (s ++ piece_text h m) in
-    let Q : List ℕ → Type 0 = λ t. PutsFront a c (o ++ t) in
-    subst P none (subst Q (regrouped h m) (front_then a b c o p _ _ head same body))
-
--- all of it
-pub pours_piece : (a b c d : Outside) (o p q w : List ℕ) (h : Head) (m : Matrix) → o ≡ [] → PutsOn a b o p (head_text h) → b.output ≡ a.output → PutsOn b c p q (text_of_lines (cell_lines m)) → c.output ≡ a.output → PutsOn c d q w [] → w ≡ [] → WritesOn a d (piece_text h m)
-pours_piece a b c d o p q w h m none head same body still end empty =
-    let P : List ℕ → Type 0 = λ s. PutsOn c d q s [] in
-    pours_all a c d q (piece_text h m) (both a b c o p q h m none head same body) still (subst P empty end)
-
--- of what waited at the end a front
-pub front_piece : (a b c d : Outside) (o p q : List ℕ) (h : Head) (m : Matrix) → o ≡ [] → PutsOn a b o p (head_text h) → b.output ≡ a.output → PutsOn b c p q (text_of_lines (cell_lines m)) → c.output ≡ a.output → PutsFront c d (q ++ []) → PutsFront a d (piece_text h m)
-front_piece a b c d o p q h m none head same body still end = pours_front a c d q (piece_text h m) (both a b c o p q h m none head same body) still end
 
 -- ---- a local array
 

@@ -40,7 +40,7 @@ LoadsTurn (Err e) files prefix turn = RefusesTurn e files prefix turn
 
 -- ---- all pieces
 
--- each piece has a head that a piece may have, and its turn behind those before it
+-- each piece has a head that a piece may have, and its turn after those before it
 abbrev pub HaveTurns : (before ps : List grammar.Piece) → Type 0
 HaveTurns before [] = Unit {0}
 HaveTurns before (p ∷ more) = grammar.IsHead p.head × HasTurn (pieces.turn_behind before) p.head × HaveTurns (before ++ p ∷ []) more

@@ -28,7 +28,7 @@ abbrev pub stepped : {X : Type 0} → (X → Place) → Result X PieceFault → 
 stepped place (Ok x) = Ok (place x)
 stepped place (Err fault) = Err (fault_view fault)
 
--- behind the line of a head, and behind a line that doesn't give the size yet or gives that of the head's array
+-- after the line of a head, and after a line that doesn't give the size yet or gives that of the head's array
 abbrev pub behind_head : Head → Place
 behind_head head = Behind (head_view head) (at.AtSize General)
 
@@ -45,7 +45,7 @@ Stops (Bad r) turn n place lines = read_on turn n place lines ≡ Err (refusal_v
 Stops Failed turn n place lines = Unit {0}
 Stops Memory turn n place lines = Unit {0}
 
--- reading from the place on is reading what is left at the place behind the answer
+-- reading from the place on is reading what is left at the place after the answer
 abbrev pub Passes : {X : Type 0} → (X → Place) → Result X Stop → Turn → (n : ℕ) → Place → List Line → (m : ℕ) → List Line → Type 0
 Passes behind (Ok x) turn n place lines m rest = read_on turn n place lines ≡ read_on turn m (behind x) rest
 Passes behind (Err stop) turn n place lines m rest = Stops stop turn n place lines

@@ -19,10 +19,11 @@ use crate::array_size::columns_of;
 use crate::fault::PieceFault;
 use crate::head::Head;
 use crate::stop::{Refusal, Stop};
-use mm_reader::{Halt, Header, Reader, Symmetry, read_values};
+use mm_reader::{Halt, Header, Symmetry, read_values};
 use pack_words::LocalArray;
 use std::alloc::Global;
 use store_io::Store;
+use text_io::Reader;
 
 // Why reading a piece stops where reading a matrix file does.
 #[tactic(auto, using(crate::proofs::ArrayLaws::values_refused))]
@@ -56,7 +57,7 @@ fn header_of(head: &Head) -> Header
     }
 }
 
-/// Reads the values behind the size line, and the file to its end, into a head's array.
+/// Reads the values after the size line, and the file to its end, into a head's array.
 pub(crate) fn read_array<S: Store>(
     alloc: Global,
     reader: &mut Reader,

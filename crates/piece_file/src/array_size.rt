@@ -21,8 +21,9 @@ use crate::stop::{Refusal, Stop};
 use crate::taking::take_line;
 use crate::turn::Turn;
 use index_tools::numroc;
-use mm_reader::{Header, MmFault, Reader, Symmetry, size_step};
+use mm_reader::{Header, MmFault, Symmetry, size_step};
 use store_io::Store;
+use text_io::Reader;
 
 // The most words of all pieces.
 const MOST: u64 = 1 << 26;
@@ -106,7 +107,7 @@ fn read_size_line<S: Store>(
     }
 }
 
-/// Reads any comments and blank lines and the size line behind them, which gives the head's array.
+/// Reads any comments and blank lines and the size line after them, which gives the head's array.
 #[tactic(auto, using(crate::proofs::PartLaws::none_passed, crate::proofs::PartLaws::stops_then))]
 pub(crate) fn read_size<S: Store>(
     reader: &mut Reader,

@@ -9,8 +9,9 @@ ghost use Rattle.piece_file.specs.Stopping.{stepped, Passes, Reads};
 use crate::fault::PieceFault;
 use crate::stop::{Refusal, Stop};
 use crate::taking::take_line;
-use mm_reader::{MmFault, Reader, Symmetry, banner_step};
+use mm_reader::{MmFault, Symmetry, banner_step};
 use store_io::Store;
+use text_io::Reader;
 
 // What the first line makes of the file.
 #[tactic(auto, using(crate::proofs::StepLaws::banner_general, crate::proofs::StepLaws::banner_another, crate::proofs::StepLaws::banner_bad))]

@@ -106,19 +106,14 @@ fn starts_with_blank(line: &[u8]) -> bool
 fn marked_numbers(line: &[u8]) -> Option<Desc>
     ensures { option_map desc_view result ≡ desc_words (words line.now) }
 {
-    let Some((mark, rest)) = next_word(line) else {
-        return None;
-    };
+    let (mark, rest) = next_word(line)?;
     if !is_mark(mark) {
         return None;
     }
-    let Some(numbers) = eleven_integers(rest) else {
-        return None;
-    };
-    Some(numbered(&numbers))
+    Some(numbered(&eleven_integers(rest)?))
 }
 
-/// The numbers of a line that starts at its first byte with the word `%DESC` and has eleven integers of 32 bits behind it.
+/// The numbers of a line that starts at its first byte with the word `%DESC` and has eleven integers of 32 bits after it.
 pub(crate) fn read_desc_line(line: &[u8]) -> Option<Desc>
     ensures { option_map desc_view result ≡ desc_of line.now }
 {

@@ -57,7 +57,7 @@ fn array_size(piece: &Piece) -> u64
     u64::from(piece.cells.lld()) * u64::from(piece.cells.cols())
 }
 
-// Whose turn it is behind these pieces, which have so many words; none where all are there.
+// Whose turn it is after these pieces, which have so many words; none where all are there.
 fn turn_after(pieces: &[Piece], words: u64) -> Option<Turn>
     requires turns { HaveTurns [] (map piece_view pieces.now) }
     requires within { AreWithin (map piece_view pieces.now) }

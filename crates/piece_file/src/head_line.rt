@@ -16,9 +16,10 @@ use crate::head::Head;
 use crate::stop::{Refusal, Stop};
 use crate::taking::take_line;
 use crate::turn::Turn;
-use mm_reader::{MmFault, Reader, is_text};
+use mm_reader::{MmFault, is_text};
 use std::alloc::{AllocError, Global};
 use store_io::Store;
+use text_io::Reader;
 
 // What the second line makes of the file.
 #[tactic(auto, using(crate::proofs::StepLaws::desc_no_text, crate::proofs::StepLaws::desc_no_form, crate::proofs::StepLaws::desc_good, crate::proofs::StepLaws::desc_bad))]

@@ -21,9 +21,9 @@ use crate::name::{Name, piece_name};
 use crate::piece::Piece;
 use crate::stop::Stop;
 use crate::turn::Turn;
-use mm_reader::Reader;
 use std::alloc::Global;
 use store_io::{Store, StoreErr};
+use text_io::Reader;
 
 /// Reads the open input to its end: the piece whose turn it is.
 #[tactic(auto, using(crate::proofs::PartLaws::stops_then))]

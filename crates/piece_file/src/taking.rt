@@ -6,11 +6,11 @@ ghost use Rattle.piece_file.specs.Stopping.{Offers, Reads};
 
 use crate::fault::PieceFault;
 use crate::stop::{Refusal, Stop};
-use mm_reader::{Next, Reader};
+use mm_reader::MmFault;
 use store_io::Store;
+use text_io::{Next, Reader};
 
 /// Takes the next line. Where there is none, the file has the fault `missing`.
-#[tactic(auto, using(crate::proofs::PartLaws::fault_stops, crate::proofs::PartLaws::end_stops))]
 pub(crate) fn take_line<S: Store>(
     reader: &mut Reader,
     store: &mut S,
@@ -31,7 +31,7 @@ pub(crate) fn take_line<S: Store>(
         })),
         Ok(Next::Fault(what)) => Err(Stop::Bad(Refusal {
             line,
-            fault: PieceFault::Mm(what),
+            fault: PieceFault::Mm(MmFault::of_line(what)),
         })),
         Err(_) => Err(Stop::Failed),
     }

@@ -2,12 +2,12 @@
 ghost use Rattle.std.specs.Prelude.{◌≡◌, ◌≤◌, ◌++◌, ◌∷◌, [], IsTrue};
 ghost use Rattle.std.specs.List.{flat_map};
 ghost use Rattle.text_io.specs.Writing.{Puts, Writes};
-ghost use Rattle.text_io.specs.Saving.{Pours, Saves, SavesCause, OpensOnce};
-ghost use Rattle.line_text.specs.Lines.{ended};
+ghost use Rattle.text_io.specs.Saving.{Saves, SavesCause, OpensOnce, LeavesOpen};
+ghost use Rattle.line_text.specs.Lines.{ended, text_of_lines};
 ghost use Rattle.piece_grammar.specs.Head.{IsHead, array_columns, array_of};
 ghost use Rattle.piece_grammar.specs.Desc.{desc_word};
 ghost use Rattle.piece_grammar.specs.PlainPiece.{spaced, desc_numbers, desc_line, piece_text, IsWhole, ReadsBack};
-ghost use Rattle.mm_grammar.specs.PlainText.{banner_line};
+ghost use Rattle.mm_grammar.specs.PlainText.{cell_lines};
 ghost use Rattle.piece_file.specs.HeadView.{head_view};
 ghost use Rattle.piece_file.specs.PieceView.{array_piece, matrix_piece};
 
@@ -16,7 +16,7 @@ use itoa::Buffer;
 use mm_text::{Cells, put_banner, put_cells};
 use pack_words::LocalArray;
 use store_io::{Store, StoreErr};
-use text_io::Pen;
+use text_io::{Pen, Text, save};
 
 // A space and the number.
 #[tactic(auto, using(crate::proofs::WritingLaws::puts_spaced, crate::proofs::WritingLaws::front_spaced, crate::proofs::WritingLaws::front_space))]
@@ -26,15 +26,9 @@ fn put_spaced<S: Store>(pen: &mut Pen, store: &mut S, number: u32) -> Result<(),
         Puts result (S.state store.old) (S.state store.new) pen.old pen.new (spaced number) }
     ensures writes { Writes result (S.state store.old) (S.state store.new) }
 {
-    match pen.put(store, b" ") {
-        Ok(()) => {}
-        Err(error) => return Err(error),
-    }
+    pen.put(store, b" ")?;
     let mut buffer = Buffer::new();
-    match pen.put(store, buffer.format(number).as_bytes()) {
-        Ok(()) => Ok(()),
-        Err(error) => Err(error),
-    }
+    pen.put(store, buffer.format(number).as_bytes())
 }
 
 // The numbers, a space before each.
@@ -47,10 +41,7 @@ fn put_numbers<S: Store>(pen: &mut Pen, store: &mut S, numbers: &[u32]) -> Resul
     ensures writes { Writes result (S.state store.old) (S.state store.new) }
 {
     for number in numbers {
-        match put_spaced(pen, store, *number) {
-            Ok(()) => {}
-            Err(error) => return Err(error),
-        }
+        put_spaced(pen, store, *number)?;
     }
     Ok(())
 }
@@ -84,10 +75,8 @@ fn put_desc_words<S: Store>(pen: &mut Pen, store: &mut S, head: &Head) -> Result
         (desc_line (head_view head.now)) }
     ensures writes { Writes result (S.state store.old) (S.state store.new) }
 {
-    match put_desc_word(pen, store) {
-        Ok(()) => put_desc_numbers(pen, store, head),
-        Err(error) => Err(error),
-    }
+    put_desc_word(pen, store)?;
+    put_desc_numbers(pen, store, head)
 }
 
 // The line that tells the piece's place and the whole matrix's spread.
@@ -99,55 +88,48 @@ fn put_desc<S: Store>(pen: &mut Pen, store: &mut S, head: &Head) -> Result<(), S
         (ended (desc_line (head_view head.now))) }
     ensures writes { Writes result (S.state store.old) (S.state store.new) }
 {
-    match put_desc_words(pen, store, head) {
-        Ok(()) => pen.put(store, b"\n"),
-        Err(error) => Err(error),
-    }
+    put_desc_words(pen, store, head)?;
+    pen.put(store, b"\n")
 }
 
-// The lines before the cells.
+// The lines after the banner.
 #[tactic(auto, using(text_io::proofs::Putting::puts_then, text_io::proofs::Putting::front_then, text_io::proofs::Putting::front_more))]
-fn put_head<S: Store>(pen: &mut Pen, store: &mut S, head: &Head) -> Result<(), StoreErr>
+fn put_rest<S: Store, C: Cells>(
+    pen: &mut Pen,
+    store: &mut S,
+    head: &Head,
+    cells: &C,
+) -> Result<(), StoreErr>
     requires { IsTrue (S.state store.old).writing }
     ensures puts { IsTrue (S.state store.old).told →
         Puts result (S.state store.old) (S.state store.new) pen.old pen.new
-        (ended banner_line ++ ended (desc_line (head_view head.now))) }
+        (ended (desc_line (head_view head.now)) ++ text_of_lines (cell_lines (C.matrix cells.now))) }
     ensures writes { Writes result (S.state store.old) (S.state store.new) }
 {
-    match put_banner(pen, store) {
-        Ok(()) => put_desc(pen, store, head),
-        Err(error) => Err(error),
-    }
+    put_desc(pen, store, head)?;
+    put_cells(pen, store, cells)
 }
 
-// The whole text to the open output.
-#[tactic(auto, using(crate::proofs::WritingLaws::front_head, crate::proofs::WritingLaws::front_cells, crate::proofs::WritingLaws::pours_piece, crate::proofs::WritingLaws::front_piece))]
-fn put_piece<S: Store, C: Cells>(store: &mut S, head: &Head, cells: &C) -> Result<(), StoreErr>
-    requires { IsTrue (S.state store.old).writing }
-    ensures pours { IsTrue (S.state store.old).told →
-        Pours result (S.state store.old) (S.state store.new)
-        (piece_text (head_view head.now) (C.matrix cells.now)) }
-    ensures writes { Writes result (S.state store.old) (S.state store.new) }
-{
-    let mut pen = Pen::new();
-    match put_head(&mut pen, store, head) {
-        Ok(()) => {}
-        Err(error) => return Err(error),
-    }
-    match put_cells(&mut pen, store, cells) {
-        Ok(()) => {}
-        Err(error) => return Err(error),
-    }
-    match pen.flush(store) {
-        Ok(()) => Ok(()),
-        Err(error) => Err(error),
+// A piece as the text of its file.
+#[derive(Drop)]
+struct PieceText<'a, C: Cells> {
+    head: &'a Head,
+    cells: &'a C,
+}
+
+impl<C: Cells> Text for PieceText<'_, C> {
+    ghost bytes = { λ t. piece_text (head_view t.head.now) (C.matrix t.cells.now) };
+
+    #[tactic(auto, using(text_io::proofs::Putting::puts_then, text_io::proofs::Putting::front_then, text_io::proofs::Putting::front_more), unfolding(piece_grammar::specs::PlainPiece::piece_text))]
+    fn put<S: Store>(&self, pen: &mut Pen, store: &mut S) -> Result<(), StoreErr> {
+        put_banner(pen, store)?;
+        put_rest(pen, store, self.head, self.cells)
     }
 }
 
 /// Writes the text of a piece to a file, and closes it: the banner, the line of the head, and the size and the values of the
 /// local array `cells` by columns. It takes no memory. `Failed` comes where the store failed; the file is then as opening it
 /// left it, or holds a front of the text.
-#[tactic(auto, using(text_io::proofs::Putting::saves_front))]
 pub fn write_cells<S: Store, C: Cells>(
     store: &mut S,
     name: &str,
@@ -160,19 +142,9 @@ pub fn write_cells<S: Store, C: Cells>(
     ensures back { let p = matrix_piece (head_view head.now) (C.matrix cells.now) in IsWhole p → ReadsBack p }
     ensures opens { OpensOnce (S.state store.old) (S.state store.new) }
     ensures cause { SavesCause result (S.state store.old) (S.state store.new) }
+    ensures open { LeavesOpen result (S.state store.old) (S.state store.new) }
 {
-    match store.open_write(name) {
-        Ok(()) => {}
-        Err(error) => return Err(error),
-    }
-    match put_piece(store, head, cells) {
-        Ok(()) => {}
-        Err(error) => return Err(error),
-    }
-    match store.close() {
-        Ok(()) => Ok(()),
-        Err(error) => Err(error),
-    }
+    save(store, name, &PieceText { head, cells })
 }
 
 /// Writes a piece to a file, and closes it. It takes no memory. `Failed` comes where the store failed; the file is then as
@@ -193,6 +165,7 @@ pub fn write_piece<S: Store>(
     ensures back { ReadsBack (array_piece (head_view head.now) cells.now) }
     ensures opens { OpensOnce (S.state store.old) (S.state store.new) }
     ensures cause { SavesCause result (S.state store.old) (S.state store.new) }
+    ensures open { LeavesOpen result (S.state store.old) (S.state store.new) }
 {
     // an array keeps its limits, as this call tells
     let _lead = cells.lld();

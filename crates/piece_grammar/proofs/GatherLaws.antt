@@ -34,7 +34,7 @@ held_turn held prefix before bytes next all few more e =
       | Err r ↦ λ is. record { before = before; are_held = all; are_few = few; name_is = refl; bytes = bytes; is_held = e; is_fault = (reading turn).refuses bytes r is }
     ] refl
 
--- a turn, and what comes behind it
+-- a turn, and what comes after it
 on_turn : (held : Held) (prefix : List ℕ) (before : List Piece) (next : Piece → Gathered) → AreHeld held prefix before → AreFew before
     → ((p : Piece) → HoldsPiece held prefix (turn_behind before) p → IsGathered held prefix (next p)) → IsGathered held prefix (take_turn held prefix (turn_behind before) next)
 on_turn held prefix before next all few more =

@@ -72,7 +72,7 @@ kind_is j k e = cc
 same_kind : (a b : Line) (j k : Symmetry) → a ≡ b → IsBannerLine j a → IsBannerLine k b → k ≡ j
 same_kind a b j k same x y = kind_is k j (sym y.names ∙ ap (λ (line : Line). banner_of line.text) (sym same) ∙ x.names)
 
--- the lines behind the head's
+-- the lines after the head's
 parts : (turn : Turn) (head : Head) (banner : Line) (rest : List Line) (place : at.Place) (n : ℕ) → IsBannerLine General banner → matrix.LeadsTo width32 (banner ∷ rest) place → HasArray turn head place
     → meaning.LeadsFrom (piece_format turn) n (Behind head (at.AtSize General)) rest (Behind head place)
 parts turn head banner rest at.AtBanner n is none a = absurd cc

@@ -50,7 +50,7 @@ small_numbers h is =
     let cs : h.csrc < h.npcol = is.column_source in
     (omega arith, (omega arith, (omega arith, (omega arith, (is.rows_fit, (is.columns_fit, (is.row_block_fits, (is.column_block_fits, (omega arith, (omega arith, (is.lead_fits, tt)))))))))))
 
--- the words of a word and numbers behind it
+-- the words of a word and numbers after it
 numbers_words : (word : List ℕ) (ns : List ℕ) → IsWord word → AreSmall ns → words (word ++ flat_map spaced ns) ≡ word ∷ map decimal ns
 numbers_words word [] is all = ap words (append-nil word) ∙ words_one word is
 numbers_words word (n ∷ ns) is all =
@@ -184,7 +184,7 @@ rest_of a b ls ms e = cc
 first_of : (a b : Line) (ls ms : List Line) → lines_of (a ∷ ls) ≡ lines_of (b ∷ ms) → a ≡ b
 first_of a b ls ms e = cc
 
--- A text whose lines behind the banner stand further back is a text of the same matrix.
+-- A text whose lines after the banner stand further back is a text of the same matrix.
 accepted_moved : (width : Width) (banner : Line) (rest : List Line) (m : Matrix) (k top : ℕ) → IsAccepted width (banner ∷ rest) m → AllByRecursion (IsUpTo top) rest → top + k ≤ 2 ^ 30 → IsAccepted width (banner ∷ map (moved k) rest) m
 accepted_moved width banner rest m k top a upto few =
     let o : Opens width (banner ∷ rest) a.header a.parts.body = a.parts.opens in
@@ -224,7 +224,7 @@ cells_short m is =
     let d : length (text_of_lines (map signed_decimal m.values)) ≤ length m.values * 12 = values_short width32 10 m.values (omega arith) (omega arith) is.each in
     omega arith
 
--- a written line, and the lines behind it
+-- a written line, and the lines after it
 one_more : (at : ℕ) (line : List ℕ) (rest : List ℕ) → IsLine line → lines_behind at (whole_lines (ended line ++ rest)) ≡ record { text = line; upto = at + length (ended line) } ∷ lines_behind (at + length (ended line)) (whole_lines rest)
 unfolding lines_behind
 one_more at line rest is =
@@ -288,7 +288,7 @@ written_accepted p is =
           (accepted_moved width32 banner_at (behind start m) m k top plain (lines_upto start top (whole_lines (text_of_lines (cell_lines m))) far) fits);
     }
 
--- ---- a text of one piece alone
+-- ---- a text of just one piece
 
 abbrev some_desc : Desc → Option Desc
 some_desc d = Some d

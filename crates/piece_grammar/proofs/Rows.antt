@@ -31,7 +31,7 @@ upper = record { nprow = 2; npcol = 1; prow = 0; pcol = 0; m = 3; n = 2; mb = 2;
 abbrev lower : Head
 lower = record { nprow = 2; npcol = 1; prow = 1; pcol = 0; m = 3; n = 2; mb = 2; nb = 1; rsrc = 0; csrc = 0; lld = 1 }
 
--- the turn of the lower one, behind the upper one
+-- the turn of the lower one, after the upper one
 abbrev second : Turn
 second = record { prow = 1; pcol = 0; first = Some upper; before = 4 }
 
@@ -49,7 +49,7 @@ abbrev AllRead : List (Turn × List ℕ × Result Piece Refusal) → Type 0
 AllRead [] = Unit {0}
 AllRead (row ∷ rows) = (read_text row.0 row.1 ≡ row.2) × AllRead rows
 
--- The two pieces; the lower one without its last line; with blank lines and comments behind its second line; of another process; and of another matrix.
+-- The two pieces; the lower one without its last line; with blank lines and comments after its second line; of another process; and of another matrix.
 abbrev pieces_rows : List (Turn × List ℕ × Result Piece Refusal)
 pieces_rows =
     (alone 0 0, file (codes "%DESC 2 1 0 0 3 2 2 1 0 0 2" ∷ codes "2 2" ∷ codes "1" ∷ codes "2" ∷ codes "4" ∷ codes "5" ∷ []), given upper (pos 1 ∷ pos 2 ∷ pos 4 ∷ pos 5 ∷ []))

@@ -160,7 +160,7 @@ from_part turn before head place line p s e =
       array = array_kept turn head place line q.0 s.array q.1 q.2;
     })
 
--- The lines up to one that was taken stand in the parts, and lead to the place behind it.
+-- The lines up to one that was taken stand in the parts, and lead to the place after it.
 pub leads_on : (turn : Turn) (before : List Line) (place : Place) (line : Line) (p : Place) → LeadsTo turn before place → step turn place line ≡ Ok p → LeadsTo turn (before ++ line ∷ []) p
 unfolding step
 leads_on turn before AtBanner line p stand e = from_banner turn before line p stand e

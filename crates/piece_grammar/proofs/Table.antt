@@ -24,7 +24,7 @@ fault_or_none : (o : Option Fault) (p : Place) → fault_of (unless_fault o (Ok 
 fault_or_none None p = refl
 fault_or_none (Some fault) p = refl
 
--- a step of the array's file and the rows behind its own
+-- a step of the array's file and the rows after its own
 passed_fault : (more : List (Option Fault)) (place : at.Place → Place) (r : Result at.Place MatrixFault) → fault_of (passed more place r) ≡ first_fault (option_map Mm (fault_of r) ∷ more)
 passed_fault more place (Ok next) = fault_or_none (first_fault more) (place next)
 passed_fault more place (Err fault) = refl

@@ -16,7 +16,7 @@ use Rattle.piece_grammar.specs.Place.{Place, AtBanner, AtDesc, Behind}
 use Rattle.piece_grammar.specs.FaultTable.{piece_faults}
 use Rattle.piece_grammar.specs.PieceReading.{piece_format}
 
--- the banner alone
+-- only the banner
 pub record HasBanner (lines : List Line) : Type 0 where
   pub banner : Line
   pub whole : lines ≡ banner ∷ []
@@ -42,7 +42,7 @@ pub record Stands (turn : Turn) (lines : List Line) (head : Head) (place : at.Pl
   pub leads : matrix.LeadsTo width32 (banner ∷ rest) place
   pub array : HasArray turn head place
 
--- the lines stand in the parts of a piece, and the place is what comes behind them
+-- the lines stand in the parts of a piece, and the place is what comes after them
 abbrev pub LeadsTo : Turn → List Line → Place → Type 0
 LeadsTo turn lines AtBanner = lines ≡ []
 LeadsTo turn lines AtDesc = HasBanner lines

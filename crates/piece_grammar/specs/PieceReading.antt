@@ -53,7 +53,7 @@ piece_format turn = record { lines_of = file_lines; start = AtBanner; step = λ 
 abbrev pub read_on : Turn → (line : ℕ) → Place → List Line → Result Piece Refusal
 read_on turn n place lines = formats.read_on (piece_format turn) n place lines
 
--- the bytes of a file behind so many others, from the line of this number on, at this place
+-- the bytes of a file after so many others, from the line of this number on, at this place
 abbrev pub read_behind : Turn → (line : ℕ) → Place → (before : ℕ) → List ℕ → Result Piece Refusal
 read_behind turn n place before bytes = read_on turn n place (lines_behind before (whole_lines bytes))
 

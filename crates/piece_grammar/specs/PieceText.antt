@@ -1,4 +1,4 @@
--- Piece text: a matrix file of a general matrix with one line more behind its banner, which tells the head; the matrix is the local array.
+-- Piece text: a matrix file of a general matrix with one line more after its banner, which tells the head; the matrix is the local array.
 use Rattle.std.specs.Prelude.{◌≡◌, ℕ, false, List, ◌∷◌, Some, None}
 use Rattle.mm_grammar.specs.Width.{width32}
 use Rattle.mm_grammar.specs.FileLines.{Line, file_lines, line_fault}

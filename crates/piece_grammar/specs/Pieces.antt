@@ -16,7 +16,7 @@ Held = List ℕ → Option (List ℕ)
 abbrev pub words_of : List Piece → ℕ
 words_of pieces = sum (map (λ p. array_words p.head) pieces)
 
--- Whose turn it is behind these pieces: first the process (0, 0), and then the others of its grid by rows.
+-- Whose turn it is after these pieces: first the process (0, 0), and then the others of its grid by rows.
 abbrev pub turn_behind : List Piece → Turn
 turn_behind [] = alone 0 0
 turn_behind (first ∷ more) = record {
@@ -48,7 +48,7 @@ pub record HoldsPiece (held : Held) (prefix : List ℕ) (turn : Turn) (p : Piece
   pub is_held : held (name_of prefix turn) ≡ Some bytes
   pub is_piece : IsPieceTextAt turn bytes p
 
--- each of these pieces is held where its turn comes, behind those before it
+-- each of these pieces is held where its turn comes, after those before it
 abbrev pub AreHeldBehind : Held → (prefix : List ℕ) → (before pieces : List Piece) → Type 0
 AreHeldBehind held prefix before [] = Unit {0}
 AreHeldBehind held prefix before (p ∷ more) = HoldsPiece held prefix (turn_behind before) p × AreHeldBehind held prefix (before ++ p ∷ []) more
@@ -86,7 +86,7 @@ IsGathered held prefix (Whole pieces) = AreHeld held prefix pieces × AreAll pie
 IsGathered held prefix (Missing name) = IsMissing held prefix name
 IsGathered held prefix (Bad name r) = IsBad held prefix name r
 
--- the same as a function: the piece of a turn and what comes behind it
+-- the same as a function: the piece of a turn and what comes after it
 abbrev pub taken : (name : List ℕ) → Result Piece Refusal → (Piece → Gathered) → Gathered
 taken name (Ok p) next = next p
 taken name (Err r) next = Bad name r

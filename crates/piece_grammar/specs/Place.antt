@@ -7,5 +7,5 @@ pub data Place : Type 0 where
   AtBanner : Place
   -- the line of the head
   AtDesc : Place
-  -- behind the line of this head: a place of the array's file
+  -- after the line of this head: a place of the array's file
   Behind : Head → MatrixPlace → Place

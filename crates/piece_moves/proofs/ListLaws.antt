@@ -33,7 +33,7 @@ llds_more ps k p llds lt is before =
 cells_are : (c : LocalCells) (lld cols : ℕ) → c.lld ≡ lld → c.cols ≡ cols → c ≡ record { lld = lld; cols = cols; words = c.words }
 cells_are c lld cols e f = rw (← e, ← f) refl
 
-array_is : (p : Piece) → p.cells ≡ array_of (piece_view p)
+pub array_is : (p : Piece) → p.cells ≡ array_of (piece_view p)
 array_is p = cells_are p.cells p.head.lld (grammar.array_columns (piece_view p).head) p.lead p.columns
 
 pub arrays_more : (arrays : List LocalCells) (ps : List Piece) (p : Piece) → arrays ≡ map array_of (map piece_view ps) → arrays ++ p.cells ∷ [] ≡ map array_of (map piece_view (ps ++ p ∷ []))

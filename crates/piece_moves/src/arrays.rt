@@ -15,7 +15,7 @@ use pack_words::{LocalArray, RankMem};
 use piece_file::{Head, Piece};
 use std::alloc::{AllocError, Global};
 
-// An array of zeros. Whatever keeps it from being made is told as want of memory.
+// An array of zeros. Whatever keeps it from being made is told as out of memory.
 fn zeros_of(alloc: Global, lld: u32, cols: u32) -> Result<LocalArray, AllocError>
     ensures { IfOk result (λ a. a ≡ zeros lld cols) }
 {
@@ -25,9 +25,9 @@ fn zeros_of(alloc: Global, lld: u32, cols: u32) -> Result<LocalArray, AllocError
     }
 }
 
-// The local arrays of the pieces.
+/// The local arrays of pieces, in their order.
 #[tactic(auto, using(crate::proofs::ListLaws::arrays_more))]
-fn arrays_of(alloc: Global, pieces: Vec<Piece>) -> Result<Vec<LocalArray>, AllocError>
+pub fn arrays_of(alloc: Global, pieces: Vec<Piece>) -> Result<Vec<LocalArray>, AllocError>
     ensures { IfOk result (λ v. v.items ≡ map array_of (map piece_view pieces.items)) }
 {
     let mut arrays = Vec::with_capacity(alloc, pieces.len())?;

@@ -10,6 +10,7 @@ mod moving;
 mod sizes;
 mod words;
 
+pub use arrays::arrays_of;
 pub use distribution::Distribution;
 pub use moving::{MovedPieces, move_pieces};
-pub use words::words_of_move;
+pub use words::{pieces_words, words_of_move, words_over};

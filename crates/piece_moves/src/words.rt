@@ -22,9 +22,9 @@ fn array_words(piece: &Piece) -> u64
     u64::from(piece.cells.lld()) * u64::from(piece.cells.cols())
 }
 
-// The words of all local arrays.
+/// The words of the local arrays of pieces, of which there are at most 64.
 #[tactic(auto, using(crate::proofs::WordCounts::pieces_more))]
-fn pieces_words(pieces: &[Piece]) -> u64
+pub fn pieces_words(pieces: &[Piece]) -> u64
     requires { length pieces.now ≤ 64 }
     ensures words { result ≡ words_of (map piece_view pieces.now) }
     ensures bound { result ≤ 64 * 2 ^ 26 }
@@ -48,9 +48,9 @@ fn words_at(first: &Head, to: &Distribution, k: u32) -> u64
     u64::from(lld) * u64::from(width)
 }
 
-// The words of all pieces after the move.
+/// The words of all local arrays after the move.
 #[tactic(auto, using(crate::proofs::WordCounts::no_words, crate::proofs::WordCounts::more_words))]
-fn words_over(first: &Head, to: &Distribution) -> u64
+pub fn words_over(first: &Head, to: &Distribution) -> u64
     requires head { IsHead (head_view first.now) }
     ensures words { result ≡ by.words_over (head_view first.now) (distribution_view to.now)
         (to.now.nprow * to.now.npcol) }

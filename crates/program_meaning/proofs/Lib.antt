@@ -1,3 +1,4 @@
 pub mod LineLaws
 pub mod Rows
 pub mod OperationLaws
+pub mod FileSteps

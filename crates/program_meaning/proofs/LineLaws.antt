@@ -106,7 +106,7 @@ filled_words f array None s = refl
 filled_words f array (Some None) s = refl
 filled_words f array (Some (Some spread)) s = refl
 
-few_loaded : (m : Option Cells) (array : ℕ) (s t : ProgramState) → s.words ≤ 2 ^ 26 → load_line m array s ≡ Ok t → t.words ≤ 2 ^ 26
+pub few_loaded : (m : Option Cells) (array : ℕ) (s t : ProgramState) → s.words ≤ 2 ^ 26 → load_line m array s ≡ Ok t → t.words ≤ 2 ^ 26
 few_loaded None array s t h e = same_words s s t refl h None e
 few_loaded (Some m) array s t h e = same_words s _ t refl h _ e
 
@@ -115,7 +115,7 @@ few_declared s t w e =
     let g : ProcessGrid = grid_at s (pos w.grid) in
     few_array (option_map fault.Info (first_of (process_info s.grids w g) (length g.ranks))) (Some (spread_of w g)) (sizes_over (spread_of w g) g s.shapes.ranks) s t e
 
-few_line : (loads : Loads) (s t : ProgramState) (l : Line) → s.words ≤ 2 ^ 26 → line_done loads s l ≡ Ok t → t.words ≤ 2 ^ 26
+pub few_line : (loads : Loads) (s t : ProgramState) (l : Line) → s.words ≤ 2 ^ 26 → line_done loads s l ≡ Ok t → t.words ≤ 2 ^ 26
 unfolding line_done
 few_line loads s t (Ranks n) h e = same_words (begun n) (begun n) t refl (let z : 0 ≤ 2 ^ 26 = omega arith in z) None e
 few_line loads s t (Grid order nprow npcol) h e = same_words s _ t refl h _ e

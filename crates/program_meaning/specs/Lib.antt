@@ -4,3 +4,6 @@ pub mod Declarations
 pub mod Exchanges
 pub mod Programs
 pub mod Laws
+pub mod Sound
+pub mod WithFiles
+pub mod FileLaws

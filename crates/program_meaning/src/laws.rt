@@ -1,6 +1,7 @@
 //! Laws of programs.
 
 ghost use Rattle.program_meaning.specs.Laws.{AreDoneInTurn, AreRefusedFirst, AreRefusedThere, AreFewWords, AreFewOperations};
+ghost use Rattle.program_meaning.specs.FileLaws.{LinesAreDecided, StatesAreDecided, AreReachedInTurn, AreFewReached};
 
 /// Doing some lines and then others is doing all of them, one after the other.
 pub fn lines_are_done_in_turn()
@@ -18,4 +19,13 @@ pub fn first_refused_line()
 pub fn limits_are_kept()
     ensures words { AreFewWords }
     ensures operations { AreFewOperations }
+{}
+
+/// Where the store tells what its files hold, every line of a program comes to one answer, and so do lines one after the
+/// other. Doing some lines and then others is doing all of them, and never are there more than 2^26 words.
+pub fn files_decide()
+    ensures line { LinesAreDecided }
+    ensures states { StatesAreDecided }
+    ensures turn { AreReachedInTurn }
+    ensures words { AreFewReached }
 {}

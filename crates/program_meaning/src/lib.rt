@@ -7,4 +7,4 @@ mod fault;
 mod laws;
 
 pub use fault::ExecFault;
-pub use laws::{first_refused_line, limits_are_kept, lines_are_done_in_turn};
+pub use laws::{files_decide, first_refused_line, limits_are_kept, lines_are_done_in_turn};

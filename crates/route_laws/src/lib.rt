@@ -1,4 +1,4 @@
-//! What broadcasts and combines along any route give: laws alone.
+//! What broadcasts and combines along any route give: only laws.
 //!
 //! The functions of this crate do nothing: each `ensures` is a law.
 #![tactic(auto)]

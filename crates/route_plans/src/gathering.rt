@@ -54,7 +54,7 @@ pub fn spreads_pairs<N: Node, Y>()
         (p : ℕ) → p < n → (k : ℕ) → k < len → element_of (acc (along (taken_in N.Node send receive) edges memory p)) k ≡ element_of (acc (memory source)) k }
 {}
 
-/// By messages of values alone every member gets the source's values.
+/// By messages of values only, every member gets the source's values.
 pub fn spreads_values<N: Node, Y>()
     ensures { (n len source : ℕ) (edges : List (ℕ × ℕ)) (acc : N → List Held) (rest : N → Y)
         (send receive : ℕ × ℕ → N.Op) (memory : ℕ → N) → IsRoute n source edges → ((p : ℕ) → p < n → IsAccumulator len (acc (memory p))) →

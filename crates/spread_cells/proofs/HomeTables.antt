@@ -9,7 +9,7 @@ use Rattle.spread_cells.specs.IndexHomes.{index_home, index_homes}
 home_is : (p l q m : ℕ) → p ≡ q → l ≡ m → (let h : IndexHome = record { process = p; local = l } in h) ≡ record { process = q; local = m }
 home_is p l q m e f = rw (e, f) refl
 
--- the next index behind those that are there
+-- the next index after those that are there
 pub homes_more : (s : Spread) (k g p l : ℕ) (homes : List IndexHome) → homes ≡ index_homes s k → g ≡ k → p ≡ owner s g → l ≡ local s g → homes ++ record { process = p; local = l } ∷ [] ≡ index_homes s (k + 1)
 homes_more s k g p l homes before here own at =
     let last : (let h : IndexHome = record { process = p; local = l } in h) ≡ index_home s k = home_is p l (owner s k) (local s k) (own ∙ ap (owner s) here) (at ∙ ap (λ n. local s n) here) in

@@ -12,7 +12,7 @@ last_of : (xs : List ℕ) (x : ℕ) → get_or (xs ++ x ∷ []) (length xs) 0 �
 last_of [] x = refl
 last_of (y ∷ xs) x = last_of xs x
 
--- the next index behind those that are there
+-- the next index after those that are there
 pub owned_more : (s : Spread) (process : ℕ) (xs : List ℕ) (x : ℕ) → AreOwned s process xs → IsIndexAt s process (length xs) x → AreOwned s process (xs ++ x ∷ [])
 owned_more s process xs x before now = λ k lt. at k (cases_lt k (length xs)) lt
   where

@@ -8,14 +8,15 @@ use std::alloc::{AllocError, Global};
 
 /// The process that an index lies on, and its local index there, both counted from 0.
 #[derive(Clone, Copy)]
-pub(crate) struct IndexHome {
-    pub(crate) process: u32,
-    pub(crate) local: u32,
+pub struct IndexHome {
+    pub process: u32,
+    pub local: u32,
 }
 
-/// Where each of the indices below `n` lies, in their order.
+/// Where each of the indices below `n` lies, in their order, where blocks of `block` indices are dealt out to the processes in
+/// turn, the first block to the process `source`. Its memory is two numbers for each index.
 #[tactic(auto, using(crate::proofs::HomeTables::homes_more))]
-pub(crate) fn homes_of(
+pub fn homes_of(
     alloc: Global,
     n: u32,
     block: u32,

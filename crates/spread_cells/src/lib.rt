@@ -9,6 +9,7 @@ mod owned;
 mod piece;
 mod piece_cells;
 
+pub use index_home::{IndexHome, homes_of};
 pub use joined_cells::JoinedCells;
 pub use layout::Layout;
 pub use owned::owned_lists;

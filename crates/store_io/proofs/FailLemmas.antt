@@ -6,9 +6,10 @@ use Rattle.std.proofs.lemmas.List.Edits.{map_over_more}
 use Rattle.std.proofs.lemmas.List.Folds.{list_any_more}
 use Rattle.std.proofs.Math.Seq.{map-set_same}
 use Rattle.store_io.specs.Fails.{Fail, is_due, counted}
-use Rattle.store_io.specs.Buffer.{fail_of, names_of}
+use Rattle.store_io.specs.Heap.{Bytes}
+use Rattle.store_io.specs.Entries.{fail_of, names_of}
 use Rattle.store_io.specs.declared.call_kind.CallKind.{CallKind}
-use Rattle.store_io.specs.declared.fails.Part.{Part}
+use Rattle.store_io.specs.declared.heap.Part.{Part}
 use Rattle.store_io.specs.declared.fails.FailEntry.{FailEntry}
 
 -- the entries after a call was counted at the first i of them
@@ -22,7 +23,7 @@ at_place c xs i d lt =
     let here : i + 0 ≡ i = omega arith in
     get_or-append_right (map c (take i xs)) (drop i xs) i i d len (omega arith) ∙ ap (λ (n : ℕ). get_or (drop i xs) n d) none ∙ get_or-drop i xs 0 d ∙ ap (λ (n : ℕ). get_or xs n d) here
 
-pub counted_more : (bytes : List ℕ) (kind : CallKind) (name : List ℕ) (xs : List Fail) (es : List FailEntry) (i : ℕ) (d e : FailEntry) → i < length es → i < length xs
+pub counted_more : (bytes : Bytes) (kind : CallKind) (name : List ℕ) (xs : List Fail) (es : List FailEntry) (i : ℕ) (d e : FailEntry) → i < length es → i < length xs
     → map (fail_of bytes) es ≡ counted_to kind name i xs → fail_of bytes e ≡ counted kind name (fail_of bytes (get_or es i d))
     → map (fail_of bytes) (set es i e) ≡ counted_to kind name (i + 1) xs
 counted_more bytes kind name xs es i d e in_es in_xs is one =
@@ -31,7 +32,7 @@ counted_more bytes kind name xs es i d e in_es in_xs is one =
     map-set (fail_of bytes) es i e ∙ ap (λ (zs : List Fail). set zs i (fail_of bytes e)) is ∙ ap (λ (f : Fail). set (counted_to kind name i xs) i f) one
     ∙ map_over_more (counted kind name) xs (counted_to kind name i xs) i old in_xs refl there
 
-pub due_more : (bytes : List ℕ) (kind : CallKind) (name : List ℕ) (xs : List Fail) (es : List FailEntry) (i : ℕ) (d : FailEntry) → i < length es → i < length xs
+pub due_more : (bytes : Bytes) (kind : CallKind) (name : List ℕ) (xs : List Fail) (es : List FailEntry) (i : ℕ) (d : FailEntry) → i < length es → i < length xs
     → map (fail_of bytes) es ≡ counted_to kind name i xs
     → list_any (is_due kind name) (take (i + 1) xs) ≡ (list_any (is_due kind name) (take i xs) || is_due kind name (fail_of bytes (get_or es i d)))
 due_more bytes kind name xs es i d in_es in_xs is =

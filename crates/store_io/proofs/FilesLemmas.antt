@@ -7,7 +7,7 @@ use Rattle.std.proofs.lemmas.Cmp.{nat_list_cmp_total}
 use Rattle.std.proofs.lemmas.List.{take-append-drop, take-take, drop-take, take_rest}
 use Rattle.std.specs.Cmp.Lexicographic.{slice_cmp}
 use Rattle.std.specs.FinMap.{get, insert, get-insert, same_map, slice_cmp-IsAntisymmetric, nat_cmp-IsAntisymmetric}
-use Rattle.store_io.specs.Outside.{Files, Outside, WritesOn, KeepsOutput, grown, appended}
+use Rattle.store_io.specs.Outside.{Files, Outside, WritesOn, WritesFront, KeepsOutput, grown, appended}
 
 pub take_add : {X : Type 0} (xs : List X) (i k : ℕ) → take i xs ++ take k (drop i xs) ≡ take (i + k) xs
 take_add xs i k =
@@ -100,3 +100,12 @@ grew_more a b c xs i k first then = then ∙ ap (λ s. s ++ take k (take (length
 -- the same of a file
 pub writes_more : (old mid new : Outside) (xs : List ℕ) (i k : ℕ) → WritesOn old mid (take i xs) → KeepsOutput old mid → WritesOn mid new (take k (take (length xs - i) (drop i xs))) → WritesOn old new (take (i + k) xs)
 writes_more old mid new xs i k first kept then = let P : List ℕ → Type 0 = WritesOn old new in subst P (take_sliced xs i k) (writes_on old mid new _ _ first kept then)
+
+-- a front of no byte
+pub writes_no_byte : (old new : Outside) (piece : List ℕ) → new.files ≡ old.files → WritesFront old new piece
+writes_no_byte old new piece same = (0, record { files = same ∙ sym (appended-nil old.files old.output) })
+
+-- a file that was just set
+pub appended_set : (m : Files) (k v a : List ℕ) → appended (insert m k v) k a ≡ insert m k (v ++ a)
+unfolding appended
+appended_set m k v a = ap (λ (o : Option (List ℕ)). grown o (insert m k v) k a) (get_same m k v) ∙ insert-insert m k v (v ++ a)

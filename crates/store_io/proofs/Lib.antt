@@ -1,4 +1,5 @@
 pub mod FilesLemmas
-pub mod BufferLemmas
+pub mod HeapLaws
+pub mod EntryLaws
+pub mod MemLaws
 pub mod FailLemmas
-pub mod HeldLemmas

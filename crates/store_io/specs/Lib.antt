@@ -1,7 +1,7 @@
 pub mod Outside
 pub mod Fails
-pub mod Held
-pub mod Buffer
-pub mod BufferView
+pub mod Heap
+pub mod Entries
 pub mod MemState
+pub mod MemSteps
 pub mod MemView

@@ -1,21 +1,16 @@
-//! Calls that are to fail, in a buffer that holds their names.
-ghost use Rattle.std.specs.Prelude.{◌≡◌, ◌≤◌, length, map};
+//! Calls that are to fail, by entries.
+ghost use Rattle.std.specs.Prelude.{◌≡◌, map};
 ghost use Rattle.std.specs.List.{AllByRecursion, list_any};
 ghost use Rattle.store_io.specs.Fails.{is_for, is_due, counted};
-ghost use Rattle.store_io.specs.Buffer.{part_of, fail_of, names_of, FitsIn};
+ghost use Rattle.store_io.specs.Heap.{IsPart};
+ghost use Rattle.store_io.specs.Entries.{fail_of, names_of};
 
 use crate::CallKind;
+use crate::heap::{Heap, Part};
 use arrayvec::ArrayVec;
 
 /// The most calls that are to fail in one store.
 pub(crate) const MOST_FAILS: usize = 64;
-
-/// A part of a buffer.
-#[derive(Clone, Copy)]
-pub(crate) struct Part {
-    pub from: usize,
-    pub to: usize,
-}
 
 /// The nth call of a kind on a name is to fail; 0 where it has been.
 #[derive(Clone, Copy)]
@@ -29,28 +24,32 @@ impl Default for FailEntry {
     fn default() -> FailEntry {
         FailEntry {
             kind: CallKind::Read,
-            name: Part { from: 0, to: 0 },
+            name: Part {
+                aside: false,
+                from: 0,
+                to: 0,
+            },
             nth: 0,
         }
     }
 }
 
 /// Whether an entry counts calls of this kind on this name.
-fn counts_call(bytes: &[u8], entry: FailEntry, kind: CallKind, name: &[u8]) -> bool
-    requires { FitsIn (length bytes.now) entry.name }
-    ensures { result ≡ is_for kind name.now (fail_of bytes.now entry) }
+fn counts_call(heap: &Heap, entry: FailEntry, kind: CallKind, name: &[u8]) -> bool
+    requires { IsPart heap.now entry.name }
+    ensures { result ≡ is_for kind name.now (fail_of heap.now entry) }
 {
-    entry.kind.number() == kind.number() && &bytes[entry.name.from..entry.name.to] == name
+    entry.kind.number() == kind.number() && heap.part(entry.name) == name
 }
 
 /// Counts a call at one entry; whether the entry lets it fail.
-fn count_one(bytes: &[u8], entry: &mut FailEntry, kind: CallKind, name: &[u8]) -> bool
-    requires { FitsIn (length bytes.now) entry.old.name }
-    ensures due { result ≡ is_due kind name.now (fail_of bytes.now entry.old) }
-    ensures counted { fail_of bytes.now entry.new ≡ counted kind name.now (fail_of bytes.now entry.old) }
+fn count_one(heap: &Heap, entry: &mut FailEntry, kind: CallKind, name: &[u8]) -> bool
+    requires { IsPart heap.now entry.old.name }
+    ensures due { result ≡ is_due kind name.now (fail_of heap.now entry.old) }
+    ensures counted { fail_of heap.now entry.new ≡ counted kind name.now (fail_of heap.now entry.old) }
     ensures name { entry.new.name ≡ entry.old.name }
 {
-    if !counts_call(bytes, *entry, kind, name) {
+    if !counts_call(heap, *entry, kind, name) {
         return false;
     }
     let due = entry.nth == 1;
@@ -59,16 +58,16 @@ fn count_one(bytes: &[u8], entry: &mut FailEntry, kind: CallKind, name: &[u8]) -
 }
 
 // Counts a call at each entry; whether one of them lets it fail.
-fn count_each(bytes: &[u8], entries: &mut [FailEntry], kind: CallKind, name: &[u8]) -> bool
-    requires { AllByRecursion (FitsIn (length bytes.now)) (names_of entries.old) }
-    ensures due { result ≡ list_any (is_due kind name.now) (map (fail_of bytes.now) entries.old) }
-    ensures counted { map (fail_of bytes.now) entries.new ≡ map (counted kind name.now)
-        (map (fail_of bytes.now) entries.old) }
+fn count_each(heap: &Heap, entries: &mut [FailEntry], kind: CallKind, name: &[u8]) -> bool
+    requires { AllByRecursion (IsPart heap.now) (names_of entries.old) }
+    ensures due { result ≡ list_any (is_due kind name.now) (map (fail_of heap.now) entries.old) }
+    ensures counted { map (fail_of heap.now) entries.new ≡ map (counted kind name.now)
+        (map (fail_of heap.now) entries.old) }
     ensures names { names_of entries.new ≡ names_of entries.old }
 {
     let mut due = false;
     for i in 0..entries.len() {
-        due |= count_one(bytes, &mut entries[i], kind, name);
+        due |= count_one(heap, &mut entries[i], kind, name);
     }
     due
 }
@@ -76,16 +75,16 @@ fn count_each(bytes: &[u8], entries: &mut [FailEntry], kind: CallKind, name: &[u
 /// Counts a call at each entry; whether one of them lets it fail.
 #[tactic(auto, using(crate::proofs::FailLemmas::refilled))]
 pub(crate) fn count_call(
-    bytes: &[u8],
+    heap: &Heap,
     entries: &mut ArrayVec<FailEntry, MOST_FAILS>,
     kind: CallKind,
     name: &[u8],
 ) -> bool
-    requires { AllByRecursion (FitsIn (length bytes.now)) (names_of entries.old.items) }
-    ensures due { result ≡ list_any (is_due kind name.now) (map (fail_of bytes.now) entries.old.items) }
-    ensures counted { map (fail_of bytes.now) entries.new.items ≡ map (counted kind name.now)
-        (map (fail_of bytes.now) entries.old.items) }
+    requires { AllByRecursion (IsPart heap.now) (names_of entries.old.items) }
+    ensures due { result ≡ list_any (is_due kind name.now) (map (fail_of heap.now) entries.old.items) }
+    ensures counted { map (fail_of heap.now) entries.new.items ≡ map (counted kind name.now)
+        (map (fail_of heap.now) entries.old.items) }
     ensures names { names_of entries.new.items ≡ names_of entries.old.items }
 {
-    count_each(bytes, entries, kind, name)
+    count_each(heap, entries, kind, name)
 }

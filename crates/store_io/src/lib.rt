@@ -1,12 +1,14 @@
 //! What the tools read from and write to: a store of files by name, and a sink of bytes.
 #![tactic(auto)]
 
-mod buffer;
 mod call_kind;
 mod dir_store;
+mod entries;
 mod fails;
+mod heap;
 mod helpers;
 mod mem_sink;
+mod mem_steps;
 mod mem_store;
 mod sink;
 mod std_sink;

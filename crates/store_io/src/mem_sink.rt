@@ -3,7 +3,7 @@ ghost use Rattle.std.specs.Prelude.{◌≡◌, ◌≤◌, ◌<◌, ◌+◌, ◌-
 ghost use Rattle.store_io.specs.Outside.{GivesCause, GrewByFront, OneMore};
 ghost use Rattle.store_io.specs.MemState.{RefusesWrite};
 
-use crate::buffer::put_at;
+use crate::heap::extend;
 use crate::{Sink, SinkErr};
 use std::alloc::{AllocError, Global};
 use std::marker::Model;
@@ -15,7 +15,7 @@ use std::marker::Model;
 #[derive(Drop)]
 pub struct MemSink {
     bytes: Vec<u8>,
-    used: usize,
+    room: usize,
     faults: u64,
     // the write that fails, counted from now on; 0 where none does
     due: u32,
@@ -44,10 +44,9 @@ impl MemSink {
         ensures room { IfOk result (λ s. s.room ≡ room) }
         ensures none_due { IfOk result (λ s. s.due ≡ 0) }
     {
-        let bytes = vec![in alloc; 0u8; room]?;
         Ok(MemSink {
-            bytes,
-            used: 0,
+            bytes: Vec::with_capacity(alloc, room)?,
+            room,
             faults: 0,
             due: 0,
         })
@@ -57,7 +56,7 @@ impl MemSink {
     pub fn bytes(&self) -> &[u8]
         ensures { result.now ≡ self.now.poured.bytes }
     {
-        &self.bytes[..self.used]
+        &self.bytes
     }
 
     /// Lets the nth write, counted from 1 and from now on, fail. It takes the place of an earlier `fail`; 0 lets none fail.
@@ -99,13 +98,13 @@ impl Sink for MemSink {
     {
         let is_due = self.due == 1;
         self.due = self.due.saturating_sub(1);
-        let count = piece.len().min(self.bytes.len() - self.used);
+        let count = piece.len().min(self.room);
         if is_due || (count == 0 && !piece.is_empty()) {
             self.faults = self.faults.saturating_add(1);
             return Err(SinkErr::Failed);
         }
-        put_at(&mut self.bytes, self.used, &piece[..count]);
-        self.used += count;
+        extend(&mut self.bytes, &piece[..count]);
+        self.room -= count;
         Ok(count)
     }
 }

@@ -7,8 +7,11 @@ ghost use Rattle.store_io.specs.Fails.{falls_due, after_call};
 ghost use Rattle.store_io.specs.MemState.{HasRoom, LacksRoom, Spends, SameRoom, CanFail, KeepsOpen, CountsOnce, input_name, output_name, closed_name};
 ghost use Rattle.store_io.specs.declared.call_kind.CallKind.TheVariants.{OpenRead, Read, OpenWrite, Write, Close};
 
-use crate::buffer::Buffer;
+use crate::entries::{Entry, Input, newest};
+use crate::fails::{FailEntry, MOST_FAILS};
+use crate::heap::Heap;
 use crate::{CallKind, Store, StoreErr};
+use arrayvec::ArrayVec;
 use std::alloc::{AllocError, Global};
 use std::marker::Model;
 
@@ -19,10 +22,16 @@ use std::marker::Model;
 /// where room or entries run out. The counts stop at their last value.
 #[derive(Drop)]
 pub struct MemStore {
-    buffer: Buffer,
-    faults: u64,
-    misses: u64,
-    opens: u64,
+    pub(crate) heap: Heap,
+    // the files, the oldest first, but for the open output, which goes before them
+    pub(crate) entries: Vec<Entry>,
+    pub(crate) unused: usize,
+    pub(crate) output: Option<Entry>,
+    pub(crate) input: Option<Input>,
+    pub(crate) fails: ArrayVec<FailEntry, MOST_FAILS>,
+    pub(crate) faults: u64,
+    pub(crate) misses: u64,
+    pub(crate) opens: u64,
 }
 
 impl Model for MemStore {
@@ -32,13 +41,16 @@ impl Model for MemStore {
 
     ghost coded = { mem_code };
 
-    ghost use Rattle.store_io.specs.MemView.{mem_view};
+    ghost use Rattle.store_io.specs.MemView.{mem_view, IsMem};
 
     ghost view = { mem_view };
+
+    ghost invariant = { IsMem };
 }
 
 impl MemStore {
     /// An empty store with room for so many bytes of names and contents, and so many openings for writing and puts.
+    #[tactic(auto, unfolding(crate::specs::Entries::files_of))]
     pub fn new(alloc: Global, room: usize, names: usize) -> Result<MemStore, AllocError>
         ensures told { IfOk result (λ s. s.outside.told ≡ true) }
         ensures empty { IfOk result (λ s. s.outside.files ≡ empty) }
@@ -50,7 +62,12 @@ impl MemStore {
         ensures no_fails { IfOk result (λ s. s.fails ≡ []) }
     {
         Ok(MemStore {
-            buffer: Buffer::new(alloc, room, names)?,
+            heap: Heap::new(alloc, room)?,
+            entries: Vec::with_capacity(alloc, names)?,
+            unused: names,
+            output: None,
+            input: None,
+            fails: ArrayVec::new(),
             faults: 0,
             misses: 0,
             opens: 0,
@@ -70,9 +87,9 @@ impl MemStore {
         ensures open { OnTrue result (KeepsOpen self.old self.new) }
         ensures refused { OnFalse result (self.new ≡ self.old) }
     {
-        let fits = self.buffer.has_room_for(name.as_bytes(), bytes);
+        let fits = self.has_room_for(name.as_bytes(), bytes);
         if fits {
-            self.buffer.put(name.as_bytes(), bytes);
+            self.set_file(name.as_bytes(), bytes);
         }
         fits
     }
@@ -90,7 +107,7 @@ impl MemStore {
         }) }
         ensures refused { OnFalse result (self.new ≡ self.old) }
     {
-        self.buffer.fail(kind, name.as_bytes(), nth)
+        self.add_fail(kind, name.as_bytes(), nth)
     }
 
     /// The bytes of a file. None exactly where no file has the name.
@@ -98,7 +115,8 @@ impl MemStore {
         ensures held { IfSome result (λ bytes. get self.now.outside.files name.now ≡ Some bytes.now) }
         ensures missing { IsNone result ↔ (get self.now.outside.files name.now ≡ None) }
     {
-        self.buffer.file(name.as_bytes())
+        let entry = newest(&self.heap, &self.entries, self.output, name.as_bytes())?;
+        Some(self.heap.part(entry.content))
     }
 
     /// How many calls failed.
@@ -136,14 +154,12 @@ impl Store for MemStore {
         ensures same { SameStore self.old.outside self.new.outside }
         ensures files { KeepsFiles self.old.outside self.new.outside }
     {
-        self.buffer.close_input();
-        if self.buffer.call(CallKind::OpenRead, name.as_bytes()) {
-            self.faults = self.faults.saturating_add(1);
-            return Err(StoreErr::Failed);
+        self.close_input();
+        if self.call(CallKind::OpenRead, name.as_bytes()) {
+            return Err(self.fault());
         }
-        if !self.buffer.open_input(name.as_bytes()) {
-            self.misses = self.misses.saturating_add(1);
-            return Err(StoreErr::Missing);
+        if !self.open_input(name.as_bytes()) {
+            return Err(self.miss());
         }
         Ok(())
     }
@@ -168,11 +184,10 @@ impl Store for MemStore {
         ensures same { SameStore self.old.outside self.new.outside }
         ensures files { KeepsFiles self.old.outside self.new.outside }
     {
-        if self.buffer.call_input(CallKind::Read) {
-            self.faults = self.faults.saturating_add(1);
-            return Err(StoreErr::Failed);
+        if self.call_input(CallKind::Read) {
+            return Err(self.fault());
         }
-        Ok(self.buffer.read(room))
+        Ok(self.take(room))
     }
 
     /// It fails exactly where this call was to fail, or no entry or not enough room for the name is left.
@@ -197,14 +212,13 @@ impl Store for MemStore {
         ensures cause { HasCause self.old.outside self.new.outside result }
         ensures same { SameStore self.old.outside self.new.outside }
     {
-        self.opens = self.opens.saturating_add(1);
-        let is_due = self.buffer.call(CallKind::OpenWrite, name.as_bytes());
-        if is_due || !self.buffer.has_room(name.len()) {
-            self.buffer.close_output();
-            self.faults = self.faults.saturating_add(1);
-            return Err(StoreErr::Failed);
+        self.opening();
+        let is_due = self.call(CallKind::OpenWrite, name.as_bytes());
+        self.close_output();
+        if is_due || !self.has_room(name.len()) {
+            return Err(self.fault());
         }
-        self.buffer.open_output(name.as_bytes());
+        self.begin(name.as_bytes(), b"");
         Ok(())
     }
 
@@ -234,12 +248,11 @@ impl Store for MemStore {
         ensures cause { HasCause self.old.outside self.new.outside result }
         ensures same { SameStore self.old.outside self.new.outside }
     {
-        let is_due = self.buffer.call_output(CallKind::Write);
-        if is_due || self.buffer.room() < piece.len() {
-            self.faults = self.faults.saturating_add(1);
-            return Err(StoreErr::Failed);
+        let is_due = self.call_output(CallKind::Write);
+        if is_due || self.free() < piece.len() {
+            return Err(self.fault());
         }
-        self.buffer.append(piece);
+        self.append(piece);
         Ok(piece.len())
     }
 
@@ -258,12 +271,11 @@ impl Store for MemStore {
         ensures cause { HasCause self.old.outside self.new.outside result }
         ensures same { SameStore self.old.outside self.new.outside }
     {
-        let is_due = self.buffer.call_close();
-        self.buffer.close_input();
-        self.buffer.close_output();
+        let is_due = self.call_close();
+        self.close_input();
+        self.close_output();
         if is_due {
-            self.faults = self.faults.saturating_add(1);
-            return Err(StoreErr::Failed);
+            return Err(self.fault());
         }
         Ok(())
     }

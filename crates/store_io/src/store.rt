@@ -8,7 +8,7 @@ use thiserror::Error;
 /// Why a call of a store did nothing, or not all that it was asked.
 #[derive(Clone, Copy, Debug, PartialEq, Eq, Error)]
 pub enum StoreErr {
-    /// The file isn't there. It comes from `open_read` alone, and counts as a miss.
+    /// The file isn't there. It comes only from `open_read`, and counts as a miss.
     #[error("the file is missing")]
     Missing,
     /// The store failed. It counts as a fault.

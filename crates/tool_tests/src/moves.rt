@@ -1,6 +1,7 @@
 //! The command `move` on files in memory.
 use crate::running::{holds, words};
 use file_tools::{Status, plain_tool};
+use itoa::Buffer;
 use std::alloc::{AllocError, Global};
 use std::test::Fail;
 use store_io::{MemSink, MemStore};
@@ -116,5 +117,43 @@ fn a_move_above_the_limit(rt: HostRuntime) -> Result<(), Fail> {
         b"gridtool: too many words: 67125500\n".as_slice()
     );
     assert!(rt; store.file("t.0.0").is_none() && out.bytes().is_empty());
+    Ok(())
+}
+
+// The text of a matrix of 1,000 by 1,000 elements, among them negative ones.
+fn thousand(alloc: Global) -> Result<String, AllocError> {
+    let mut text = String::from_str(
+        alloc,
+        "%%MatrixMarket matrix array integer general\n1000 1000\n",
+    )?;
+    let mut word = 1u32;
+    let mut digits = Buffer::new();
+    for _ in 0..1_000_000 {
+        word = word.wrapping_mul(1_664_525).wrapping_add(1_013_904_223);
+        let value = (word / 4096) as i32 - 524_288;
+        text.push_str(digits.format(value))?;
+        text.push_str("\n")?;
+    }
+    Ok(text)
+}
+
+#[test]
+fn a_thousand_rows_split_moved_and_joined(rt: HostRuntime) -> Result<(), Fail> {
+    let alloc = rt.alloc();
+    let text = thousand(alloc)?;
+    let mut store = MemStore::new(alloc, 40_000_000, 64)?;
+    let mut out = MemSink::new(alloc, 64)?;
+    let mut err = MemSink::new(alloc, 256)?;
+    assert!(rt; store.put("m", text.as_bytes()));
+    let lines = ["split m x 4 4 64 64", "move x y 2 8 32 32", "join y n"];
+    for line in lines {
+        let status = run(alloc, &mut store, &mut out, &mut err, line)?;
+        assert_eq!(rt; status, Status::Done, "{line}");
+    }
+    assert!(rt; holds(&store, "n", text.as_bytes()));
+    assert_eq!(rt;
+        out.bytes(),
+        b"meets 1024 messages 60 copies 4\n".as_slice()
+    );
     Ok(())
 }

@@ -47,7 +47,13 @@ fn runs(alloc: Global, n: u32, side: u32) -> Result<Vec<Span>, AllocError>
 }
 
 // The squares as a list, or as runs: None where there are too many runs.
-fn regions_of(alloc: Global, n: u32, side: u32, listed: bool) -> Result<Option<Regions>, AllocError>
+fn regions_of(
+    alloc: Global,
+    n: u32,
+    side: u32,
+    cut: &Cut,
+    listed: bool,
+) -> Result<Option<Regions>, AllocError>
     requires { 0 < side }
 {
     if listed {
@@ -58,7 +64,7 @@ fn regions_of(alloc: Global, n: u32, side: u32, listed: bool) -> Result<Option<R
     if rows.len() > 8192 || cols.len() > 8192 {
         return Ok(None);
     }
-    Ok(Some(Regions::crossed(rows, cols)))
+    Ok(Some(Regions::crossed(alloc, rows, cols, cut)?))
 }
 
 // Random words.
@@ -127,7 +133,9 @@ fn main(rt: HostRuntime) -> anyhow::Result<()> {
         m: n,
         n,
     };
-    let regions = regions_of(alloc, n, side, listed)?.ok_or_else(|| anyhow::anyhow!("too many"))?;
+    let regions = regions_of(alloc, n, side, &cut, listed)?.ok_or_else(|| anyhow::anyhow!(
+        "too many"
+    ))?;
     let mut a = LocalArray::new(alloc, n, n)?;
     let mut b = LocalArray::new(alloc, n, n)?;
     fill(&mut a);

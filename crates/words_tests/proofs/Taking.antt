@@ -1,9 +1,11 @@
 -- One more of a list.
 use Rattle.std.specs.Prelude.{◌≡◌, ℕ, zero, suc, ◌+◌, ◌<◌, Some, List, [], ◌∷◌, ◌++◌, length, take, slice_get, slice_index_or}
 use Rattle.std.specs.List.{AllByRecursion}
-use Rattle.std.proofs.Common.{arith, subst}
+use Rattle.std.proofs.Common.{arith, subst, sym, ap, ◌∙◌}
+use Rattle.std.proofs.lemmas.List.{length-append}
+use Rattle.pack_words.specs.declared.cut.Cut.{Cut}
 use Rattle.pack_words.specs.declared.region.Region.{Region}
-use Rattle.pack_words.specs.Packing.{AreApart, AllApart, IsAlike, AllAlike}
+use Rattle.pack_words.specs.Packing.{AreApart, AllApart, IsAlike, AllAlike, region_spots, spots}
 
 pub all_take : {X : Type 0} (P : X → Type 0) (xs : List X) (k : ℕ) (d : X) → k < length xs → AllByRecursion P (take k xs) → P (slice_index_or xs k d) → AllByRecursion P (take (k + 1) xs)
 all_take P [] k d lt all here = absurd (omega arith)
@@ -35,3 +37,18 @@ all_get P (y ∷ xs) (suc k) x here all = all_get P xs k x here all.1
 pub all_after_one : {X : Type 0} (P : X → Type 0) (xs : List X) (x : X) → AllByRecursion P xs → P x → AllByRecursion P (xs ++ x ∷ [])
 all_after_one P [] x all here = (here, tt)
 all_after_one P (y ∷ xs) x all here = (all.0, all_after_one P xs x all.1 here)
+
+-- what is still to come of a list, one less: all hold once the rest holds
+pub all_left : {X : Type 0} (P : X → Type 0) (all walk next : List X) (x : X) → walk ≡ x ∷ next → (AllByRecursion P walk → AllByRecursion P all) → P x → AllByRecursion P next → AllByRecursion P all
+all_left P all walk next x e f here rest = f (subst (AllByRecursion P) (sym e) (here, rest))
+
+pub all_of_none : {X : Type 0} (P : X → Type 0) (all walk : List X) → walk ≡ [] → (AllByRecursion P walk → AllByRecursion P all) → AllByRecursion P all
+all_of_none P all walk e f = f (subst (AllByRecursion P) (sym e) tt)
+
+pub spots_left : (cut : Cut) (walk next : List Region) (r : Region) → walk ≡ r ∷ next → length (spots cut walk) ≡ length (region_spots cut r) + length (spots cut next)
+unfolding spots
+spots_left cut walk next r e = ap (λ rs. length (spots cut rs)) e ∙ length-append (region_spots cut r) (spots cut next)
+
+pub spots_of_none : (cut : Cut) (walk : List Region) → walk ≡ [] → length (spots cut walk) ≡ 0
+unfolding spots
+spots_of_none cut walk e = ap (λ rs. length (spots cut rs)) e

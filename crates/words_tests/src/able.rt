@@ -1,13 +1,14 @@
 //! Whether a rank can do an operation, looked at as a test runs.
 
-ghost use Rattle.std.specs.Prelude.{◌≡◌, ◌≤◌, ◌<◌, ◌*◌, ◌^◌, IsTrue, [], ◌∷◌, length, take};
+ghost use Rattle.std.specs.Prelude.{◌≡◌, ◌≤◌, ◌<◌, ◌*◌, ◌^◌, IsTrue, IfSome, [], ◌∷◌, length, take};
 ghost use Rattle.std.specs.List.{AllByRecursion};
 ghost use Rattle.pack_words.specs.Packing.{AreApart, AllApart, IsAlike, AllAlike};
 ghost use Rattle.pack_words.specs.WholeRegions.{IsWhole};
 ghost use Rattle.pack_words.specs.RankOps.{shapes, AreMoved, AreInArray, AreCoords, CanStoreCoords, CanDo};
 
 use crate::checks::{are_moved, in_array};
-use pack_words::{Coords, Cut, RankMem, RankOp, Region, Regions};
+use pack_words::{Coords, RankMem, RankOp, Region, Regions};
+use std::alloc::Global;
 
 /// The number of elements of each accumulator.
 pub const ROOM: u32 = 2;
@@ -22,15 +23,26 @@ fn are_apart(r: &Region, t: &Region) -> bool
         || t.lj as u64 + t.cols as u64 <= r.lj as u64
 }
 
+// The regions as a list of their own: None out of memory.
+fn listed(alloc: Global, regions: &Regions) -> Option<Vec<Region>>
+    ensures { IfSome result (λ list. list.items ≡ regions.now) }
+{
+    let mut list = Vec::new(alloc);
+    let mut walk = regions.walk();
+    while let Some(region) = walk.next() {
+        list.push(region).ok()?;
+    }
+    Some(list)
+}
+
 // Whether each of the first `count` shares no place with the region.
-fn leave_out(regions: &Regions, count: usize, region: &Region) -> bool
+fn leave_out(regions: &[Region], count: usize, region: &Region) -> bool
     requires { count ≤ length regions.now }
     ensures { IsTrue result →
         AllByRecursion (λ r. AreApart r region.now) (take count regions.now) }
 {
     for k in 0..count {
-        let earlier = regions.at(k);
-        if !are_apart(&earlier, region) {
+        if !are_apart(&regions[k], region) {
             return false;
         }
     }
@@ -38,16 +50,25 @@ fn leave_out(regions: &Regions, count: usize, region: &Region) -> bool
 }
 
 // Whether no two of them share a place.
-fn all_apart(regions: &Regions) -> bool
+fn no_two_meet(regions: &[Region]) -> bool
     ensures { IsTrue result → AllApart regions.now }
 {
     for k in 0..regions.len() {
-        let region = regions.at(k);
-        if !leave_out(regions, k, &region) {
+        if !leave_out(regions, k, &regions[k]) {
             return false;
         }
     }
     true
+}
+
+// Whether no two of the regions share a place: false also out of memory.
+fn all_apart(alloc: Global, regions: &Regions) -> bool
+    ensures { IsTrue result → AllApart regions.now }
+{
+    let Some(list) = listed(alloc, regions) else {
+        return false;
+    };
+    no_two_meet(&list)
 }
 
 // Whether they have one size and one place in the cut.
@@ -58,20 +79,32 @@ fn is_alike(r: &Region, t: &Region) -> bool
 }
 
 // Whether that holds of each and the one at its place in the other list.
-fn all_alike(sources: &Regions, targets: &Regions) -> bool
+fn each_is_alike(sources: &[Region], targets: &[Region]) -> bool
     ensures { IsTrue result → AllAlike sources.now targets.now }
 {
     if sources.len() != targets.len() {
         return false;
     }
     for k in 0..sources.len() {
-        let source = sources.at(k);
-        let target = targets.at(k);
-        if !is_alike(&source, &target) {
+        if !is_alike(&sources[k], &targets[k]) {
             return false;
         }
     }
     true
+}
+
+// Whether each region and the one at its place in the other list have one size and one place in the cut: false also out
+// of memory.
+fn all_alike(alloc: Global, sources: &Regions, targets: &Regions) -> bool
+    ensures { IsTrue result → AllAlike sources.now targets.now }
+{
+    let Some(from) = listed(alloc, sources) else {
+        return false;
+    };
+    let Some(to) = listed(alloc, targets) else {
+        return false;
+    };
+    each_is_alike(&from, &to)
 }
 
 // Whether the regions lie in the rank's array of that number.
@@ -121,9 +154,9 @@ fn can_store(node: &RankMem, array: u32, region: &Region, coords: &Option<Coords
         && is_there(node, coords.ca, &Regions::one(corner))
 }
 
-/// Whether a rank with an accumulator of two elements can do the operation.
+/// Whether a rank with an accumulator of two elements can do the operation: false also out of memory.
 #[tactic(auto, using(crate::proofs::Lying::once))]
-pub fn can_do(node: &RankMem, op: &RankOp) -> bool
+pub fn can_do(alloc: Global, node: &RankMem, op: &RankOp) -> bool
     requires { length node.now.held ≡ 2 }
     ensures { IsTrue result → CanDo node.now op.now }
 {
@@ -139,7 +172,9 @@ pub fn can_do(node: &RankMem, op: &RankOp) -> bool
             array,
             regions,
             cut,
-        } => are_moved(regions, cut) && is_there(node, *array, regions) && all_apart(regions),
+        } => are_moved(regions, cut)
+            && is_there(node, *array, regions)
+            && all_apart(alloc, regions),
         RankOp::Copy {
             from_array,
             from_regions,
@@ -147,12 +182,13 @@ pub fn can_do(node: &RankMem, op: &RankOp) -> bool
             to_regions,
             cut,
         } => {
+            let (from_regions, to_regions) = (from_regions.regions(), to_regions.regions());
             are_moved(from_regions, cut)
                 && are_moved(to_regions, cut)
                 && is_there(node, *from_array, from_regions)
                 && is_there(node, *to_array, to_regions)
-                && all_apart(to_regions)
-                && all_alike(from_regions, to_regions)
+                && all_apart(alloc, to_regions)
+                && all_alike(alloc, from_regions, to_regions)
                 && from_array != to_array
         }
         RankOp::LoadAcc {

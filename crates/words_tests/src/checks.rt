@@ -21,8 +21,8 @@ pub fn are_moved(regions: &Regions, cut: &Cut) -> bool
     ensures { IsTrue result → AreMoved cut.now regions.now }
 {
     let mut area: u64 = 0;
-    for k in 0..regions.len() {
-        let region = regions.at(k);
+    let mut walk = regions.walk();
+    while let Some(region) = walk.next() {
         if !is_in_cut(&region, cut) {
             return false;
         }
@@ -49,8 +49,8 @@ pub fn in_array(array: &LocalArray, regions: &Regions) -> bool
 {
     let lld = array.lld();
     let cols = array.cols();
-    for k in 0..regions.len() {
-        let region = regions.at(k);
+    let mut walk = regions.walk();
+    while let Some(region) = walk.next() {
         if !is_in_shape(&region, lld, cols) {
             return false;
         }

@@ -37,8 +37,9 @@ fn span(first: u32, len: u32) -> Span {
     }
 }
 
-// The whole of 3 by 2 elements: as one region, as row 0 above rows 1 and 2, or as these two row runs by two columns.
-fn whole(alloc: Global, form: Form) -> Option<Regions> {
+// The whole of 3 by 2 elements: as one region, as row 0 above rows 1 and 2, or as those of these two row runs by two columns
+// that the cut touches.
+fn whole(alloc: Global, form: Form, cut: &Cut) -> Option<Regions> {
     match form {
         Form::One => Some(Regions::one(region(0, 3, 0, 2))),
         Form::Listed => {
@@ -51,7 +52,7 @@ fn whole(alloc: Global, form: Form) -> Option<Regions> {
             if rows.len() > 2 || cols.len() > 2 {
                 return None;
             }
-            Some(Regions::crossed(rows, cols))
+            Regions::crossed(alloc, rows, cols, cut).ok()
         }
     }
 }
@@ -65,17 +66,12 @@ fn two(alloc: Global) -> Option<Vec<LocalArray>> {
 
 // Rank 0 copies what the cut selects of its first array into its second, and sends it to rank 1, which receives it into its second.
 fn moved(alloc: Global, cut: Cut, form: Form) -> Option<Stage<RankMem>> {
-    let regions = whole(alloc, form)?;
+    let regions = whole(alloc, form, &cut)?;
     if !are_moved(&regions, &cut) {
         return None;
     }
-    let copy = RankOp::Copy {
-        from_array: 0,
-        from_regions: whole(alloc, form)?,
-        to_array: 1,
-        to_regions: whole(alloc, form)?,
-        cut,
-    };
+    let (from, to) = (whole(alloc, form, &cut)?, whole(alloc, form, &cut)?);
+    let copy = RankOp::copy(alloc, 0, from, 1, to, cut).ok()?;
     let put = RankOp::Put {
         to: 1,
         array: 0,
@@ -85,7 +81,7 @@ fn moved(alloc: Global, cut: Cut, form: Form) -> Option<Stage<RankMem>> {
     let get = RankOp::Get {
         from: 0,
         array: 1,
-        regions: whole(alloc, form)?,
+        regions: whole(alloc, form, &cut)?,
         cut,
     };
     let ops = Vec::from_array(alloc, [(0, copy), (0, put), (1, get)]).ok()?;

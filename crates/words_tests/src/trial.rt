@@ -18,8 +18,8 @@ fn node_of(nodes: &[RankMem], rank: u32) -> Option<&RankMem>
 }
 
 // Appends an operation, and answers whether it could: not one that its rank can't do, nor one to or from a rank that
-// isn't there, nor a receive without its message.
-fn add(plan: &mut Plan<RankOp>, nodes: &[RankMem], rank: u32, op: RankOp) -> bool
+// isn't there, nor a receive without its message, nor out of memory.
+fn add(alloc: Global, plan: &mut Plan<RankOp>, nodes: &[RankMem], rank: u32, op: RankOp) -> bool
     requires ranks { length nodes.now ≡ plan.old.ranks }
     requires rooms { AllByRecursion (λ n. length n.held ≡ 2) nodes.now }
     requires all { AllCan rank_nodes nodes.now plan.old.steps }
@@ -29,7 +29,7 @@ fn add(plan: &mut Plan<RankOp>, nodes: &[RankMem], rank: u32, op: RankOp) -> boo
     let Some(node) = node_of(nodes, rank) else {
         return false;
     };
-    if !can_do(node, &op) {
+    if !can_do(alloc, node, &op) {
         return false;
     }
     match op.kind() {
@@ -60,7 +60,7 @@ pub fn staged(
     let nodes = two_ranks(alloc, first, second)?;
     let mut plan = Plan::new(alloc, 2).ok()?;
     for (rank, op) in ops {
-        if !add(&mut plan, &nodes, rank, op) {
+        if !add(alloc, &mut plan, &nodes, rank, op) {
             return None;
         }
     }

@@ -1,5 +1,5 @@
 use Rattle.std.proofs.Common.{ap, refl}
-use Rattle.file_tools.specs.Texts.{store_fault}
+use Rattle.tool_lines.specs.Texts.{store_fault}
 use Rattle.file_tools.proofs.TellingLaws.{told_trouble}
 use Rattle.file_tools.proofs.tell.tell.Goals as goal
 

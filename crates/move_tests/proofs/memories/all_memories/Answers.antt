@@ -2,7 +2,7 @@
 use Rattle.std.proofs.Common.{◌≡◌, map, ap, ◌∙◌, arith}
 use Rattle.std.specs.List.{range_with_len}
 use Rattle.pack_words.specs.GridShapes.{measures_of}
-use Rattle.move_tests.proofs.Measures.{wanted, measures_in, one_rank, all_shaped}
+use Rattle.pack_words.proofs.Measures.{wanted, measures_in, one_rank, all_shaped}
 use Rattle.move_tests.proofs.memories.all_memories.Goals as goal
 
 pub loop-rank-preserved : goal.loop-rank-preserved

@@ -1,6 +1,6 @@
 use Rattle.std.proofs.Common.{◌≡◌, map}
 use Rattle.std.specs.List.{range_with_len}
-use Rattle.move_tests.proofs.Measures.{wanted, measures_in}
+use Rattle.pack_words.proofs.Measures.{wanted, measures_in}
 use Rattle.move_tests.proofs.memories.all_memories.Given as goal
 
 abbrev pub invariant-loop-rank : goal.invariant-loop-rank

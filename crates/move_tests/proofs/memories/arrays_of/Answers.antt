@@ -1,7 +1,7 @@
 -- One array more.
 use Rattle.std.proofs.Common.{◌∙◌, ap}
 use Rattle.pack_words.specs.GridShapes.{shape_of, whole_measure}
-use Rattle.move_tests.proofs.Measures.{measure_made, one_array}
+use Rattle.pack_words.proofs.Measures.{measure_made, one_array}
 use Rattle.move_tests.proofs.memories.arrays_of.Goals as goal
 
 pub loop-array-preserved : goal.loop-array-preserved

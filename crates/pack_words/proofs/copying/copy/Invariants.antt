@@ -1,12 +1,10 @@
-use Rattle.std.proofs.Common.{◌≡◌, take}
-use Rattle.pack_words.specs.LocalCells.{IsLocalCells}
-use Rattle.pack_words.specs.Packing.{AllInArray, spots, words_at, with_words}
+-- What is left to copy.
+use Rattle.std.proofs.Common.{length}
+use Rattle.pack_words.proofs.CopyWalk.{IsLeft}
 use Rattle.pack_words.proofs.copying.copy.Given as goal
 
-abbrev pub invariant-loop-k : goal.invariant-loop-k
-invariant-loop-k l =
-    record {
-      array : l.to ≡ with_words l.fn.to (spots l.cut (take l.k l.targets)) (words_at l.from (spots l.cut (take l.k l.sources)));
-      limits : IsLocalCells l.to;
-      held : AllInArray l.to l.targets;
-    }
+abbrev pub invariant-loop-source : goal.invariant-loop-source
+invariant-loop-source l = IsLeft l.cut l.from l.fn.to l.sources l.targets l.to l.before l.after
+
+abbrev pub decreases-loop-source : goal.decreases-loop-source
+decreases-loop-source l = length l.before

@@ -5,7 +5,7 @@ use Rattle.std.proofs.lemmas.List.{length-map, length-replicate}
 use Rattle.std.proofs.lemmas.List.FromFn.{length-map-range_with_len}
 use Rattle.pack_words.specs.GridState.{scratch_needed}
 use Rattle.pack_words.specs.GridShapes.{measures_of}
-use Rattle.scope_tests.proofs.Measures.{wanted, measures_in, held_in, one_rank, all_shaped, all_room}
+use Rattle.pack_words.proofs.Measures.{wanted, measures_in, held_in, one_rank, all_shaped, all_room}
 use Rattle.scope_tests.proofs.memories.all_memories.Goals as goal
 
 pub loop-rank-preserved : goal.loop-rank-preserved

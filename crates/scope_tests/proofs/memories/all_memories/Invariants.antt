@@ -1,7 +1,7 @@
 use Rattle.std.proofs.Common.{◌≡◌, map}
 use Rattle.std.specs.List.{range_with_len}
 use Rattle.pack_words.specs.GridState.{scratch_needed}
-use Rattle.scope_tests.proofs.Measures.{wanted, measures_in, held_in}
+use Rattle.pack_words.proofs.Measures.{wanted, measures_in, held_in}
 use Rattle.scope_tests.proofs.memories.all_memories.Given as goal
 
 abbrev pub invariant-loop-rank : goal.invariant-loop-rank

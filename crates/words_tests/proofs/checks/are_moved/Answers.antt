@@ -1,29 +1,27 @@
--- One more region.
-use Rattle.std.proofs.Common.{length, ap, arith, rules, subst}
-use Rattle.pack_words.specs.declared.region.Region.{Region}
-use Rattle.pack_words.specs.Packing.{no_region, region_spots, IsInCut}
-use Rattle.pack_words.proofs.Going.{spots_none, spots_length}
+-- One region more.
+use Rattle.std.proofs.Common.{length, ap, arith, rules}
+use Rattle.pack_words.specs.Packing.{IsInCut, spots}
 use Rattle.pack_words.proofs.Areas.{region_area}
-use Rattle.words_tests.proofs.Taking.{all_take}
+use Rattle.words_tests.proofs.Taking.{all_left, all_of_none, spots_left, spots_of_none}
 use Rattle.words_tests.proofs.checks.are_moved.Goals as goal
 
-pub loop-k-init : goal.loop-k-init
-loop-k-init c =
-    let none = ap length (spots_none c.args.cut.now) in
-    record { in_cut = tt; few = omega arith; most = omega arith }
-
-pub loop-k-preserved : goal.loop-k-preserved
-loop-k-preserved c =
+pub loop-region-preserved : goal.loop-region-preserved
+loop-region-preserved c =
     let cut = c.args.cut.now in
-    let regions = c.args.regions.now in
-    let k = c.loop-k.k in
-    let more = spots_length cut regions k no_region (omega arith) in
-    let same = c.at-region.ensures in
-    let size = ap (λ r. length (region_spots cut r)) same in
-    let area = region_area cut c.at-region.result in
-    let here : IsInCut cut c.at-region.result = search rules in
+    let here : IsInCut cut c.in-Some.region = search rules in
+    let area = region_area cut c.in-Some.region in
+    let more = spots_left cut c.loop-region.walk c.next.new.self c.in-Some.region c.in-Some.ensures in
     record {
-      in_cut = all_take (IsInCut cut) regions k no_region (omega arith) c.loop-k.invariant.in_cut (subst (λ (r : Region). IsInCut cut r) same here);
-      few = omega arith;
+      in_cut = all_left (IsInCut cut) c.args.regions.now c.loop-region.walk c.next.new.self c.in-Some.region c.in-Some.ensures c.loop-region.invariant.in_cut here;
+      few = let f = c.loop-region.invariant.few in omega arith;
       most = omega arith;
+    }
+
+pub returns : goal.returns
+returns c =
+    let cut = c.args.cut.now in
+    let none = spots_of_none cut c.loop-region.walk c.in_default.ensures in
+    λ t. record {
+      in_cut = all_of_none (IsInCut cut) c.args.regions.now c.loop-region.walk c.in_default.ensures c.loop-region.invariant.in_cut;
+      most = let f = c.loop-region.invariant.few in let m = c.loop-region.invariant.most in omega arith;
     }

@@ -1,14 +1,14 @@
--- One more region.
-use Rattle.std.proofs.Common.{arith, rules, subst}
-use Rattle.pack_words.specs.declared.region.Region.{Region}
-use Rattle.pack_words.specs.Packing.{no_region, IsInArray}
-use Rattle.words_tests.proofs.Taking.{all_take}
+-- One region more.
+use Rattle.std.proofs.Common.{rules}
+use Rattle.pack_words.specs.Packing.{IsInArray}
+use Rattle.words_tests.proofs.Taking.{all_left, all_of_none}
 use Rattle.words_tests.proofs.checks.in_array.Goals as goal
 
-pub loop-k-preserved : goal.loop-k-preserved
-loop-k-preserved c =
+pub loop-region-preserved : goal.loop-region-preserved
+loop-region-preserved c =
     let array = c.args.array.now in
-    let regions = c.args.regions.now in
-    let k = c.loop-k.k in
-    let here : IsInArray array c.at-region.result = search rules in
-    all_take (IsInArray array) regions k no_region (omega arith) c.loop-k.invariant (subst (λ (r : Region). IsInArray array r) c.at-region.ensures here)
+    let here : IsInArray array c.in-Some.region = search rules in
+    all_left (IsInArray array) c.args.regions.now c.loop-region.walk c.next.new.self c.in-Some.region c.in-Some.ensures c.loop-region.invariant here
+
+pub returns : goal.returns
+returns c = λ t. all_of_none (IsInArray c.args.array.now) c.args.regions.now c.loop-region.walk c.in_default.ensures c.loop-region.invariant

@@ -1,0 +1,13 @@
+pub mod Settling
+pub mod MoveLines
+pub mod WaitLaws
+pub mod ArrayLaws
+pub mod SoundLaws
+pub mod SizeLaws
+pub mod FillLaws
+pub mod KnownLaws
+pub mod WordLaws
+pub mod MapLines
+pub mod ProcessLaws
+pub mod ArraySizes
+pub mod ArrayDone

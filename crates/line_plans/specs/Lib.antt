@@ -1,0 +1,10 @@
+pub mod Halts
+pub mod Fitting
+pub mod Exact
+pub mod Standing
+pub mod Known
+pub mod Kinds
+pub mod Waits
+pub mod Moving
+pub mod Maps
+pub mod ArrayLines

@@ -1,0 +1,24 @@
+use Rattle.std.proofs.Common.{ℕ, Err, sym, ap, ◌∙◌}
+use Rattle.mm_grammar.specs.Faults.{Fault}
+use Rattle.mm_grammar.specs.Width.{width32}
+use Rattle.mm_reader.specs.Views.{fault_of, of_line}
+use Rattle.mm_reader.specs.ReaderView.{lines_left}
+use Rattle.mm_reader.proofs.LineFinding.{line_left, none_left, fault_left}
+use Rattle.mm_reader.proofs.WayLaws.{fault_stops}
+use Rattle.mm_reader.proofs.taking.take_line.Goals as goal
+
+pub returns-in-Ok-Line-clause-offers : goal.returns-in-Ok-Line-clause-offers
+returns-in-Ok-Line-clause-offers g c = λ told.
+    let finds = rw c.in-Ok-Line.field-0-is at (c.in-Ok-Line.ensures.finds told) in
+    line_left c.args.reader.now c.next.new.self (g.S.Store.state c.args.store.now).left (g.S.Store.state c.next.new.store).left finds
+
+pub returns-in-Ok-End-clause-offers : goal.returns-in-Ok-End-clause-offers
+returns-in-Ok-End-clause-offers g c = λ told.
+    let finds = rw c.in-Ok-End.field-0-is at (c.in-Ok-End.ensures.finds told) in
+    none_left c.args.reader.now (g.S.Store.state c.args.store.now).left finds
+
+pub returns-in-Ok-Fault-clause-offers : goal.returns-in-Ok-Fault-clause-offers
+returns-in-Ok-Fault-clause-offers g c = λ told place.
+    let finds = rw c.in-Ok-Fault.field-0-is at (c.in-Ok-Fault.ensures.finds told) in
+    fault_stops width32 c.args.reader.now.number place (lines_left c.args.reader.now (g.S.Store.state c.args.store.now)) (of_line c.in-Ok-Fault.fault) (fault_left c.in-Ok-Fault.fault c.args.reader.now (g.S.Store.state c.args.store.now).left finds)
+    ∙ ap (λ (f : Fault). Err (record { line = c.args.reader.now.number; fault = f })) (sym c.of_line.ensures) ∙ ap (λ (n : ℕ). Err (record { line = n; fault = fault_of c.of_line.result })) (sym c.number-line.ensures)

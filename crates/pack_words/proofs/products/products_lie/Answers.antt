@@ -1,6 +1,0 @@
--- The law of products.
-use Rattle.pack_words.proofs.Crossing.{product_lies}
-use Rattle.pack_words.proofs.products.products_lie.Goals as goal
-
-pub returns : goal.returns
-returns c = product_lies

@@ -1,0 +1,3 @@
+pub use Rattle.msg_core.specs.Stages
+pub use Rattle.pack_words.specs.GridState
+pub mod PlanRuns

@@ -1,0 +1,11 @@
+pub mod ListLaws
+pub mod PouringLaws
+pub mod RowLaws
+pub mod TitleLaws
+pub mod CellLaws
+pub mod AskingLaws
+pub mod FileLaws
+pub mod WritingLaws
+pub mod ResultLaws
+pub mod Fitting
+pub mod EndsLaws

@@ -1,0 +1,15 @@
+pub use Rattle.save_list.specs.Save
+pub use Rattle.save_list.specs.Saving
+pub use Rattle.tool_lines.specs.Saying
+pub mod Placed
+pub mod Printing
+pub mod RowParts
+pub mod Results
+pub mod PlaceView
+pub mod CellsView
+pub mod Pouring
+pub mod EndsView
+pub mod EndsInside
+pub mod Standing
+pub mod FinishedInside
+pub mod Laws

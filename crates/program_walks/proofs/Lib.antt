@@ -1,0 +1,4 @@
+pub mod ProgramLaws
+pub mod LineLaws
+pub mod RunLaws
+pub mod CheckLaws

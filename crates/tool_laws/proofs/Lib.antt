@@ -1,0 +1,2 @@
+pub mod ByMoveLaws
+pub mod MovedPieces

@@ -1,6 +1,0 @@
-use Rattle.std.proofs.Common.{take}
-use Rattle.pack_words.specs.Packing.{AllApart}
-use Rattle.words_tests.proofs.able.all_apart.Given as goal
-
-abbrev pub invariant-loop-k : goal.invariant-loop-k
-invariant-loop-k l = AllApart (take l.k l.regions)
