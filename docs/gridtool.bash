@@ -2,11 +2,11 @@
 _gridtool() {
     local word=${COMP_WORDS[COMP_CWORD]} options=
     if [ "$COMP_CWORD" -eq 1 ]; then
-        COMPREPLY=($(compgen -W "split join move" -- "$word"))
+        COMPREPLY=($(compgen -W "split join move check run" -- "$word"))
         return
     fi
     case ${COMP_WORDS[1]} in
-        move) options="--threads --seed" ;;
+        move | run) options="--threads --seed" ;;
     esac
     case $word in
         -*) COMPREPLY=($(compgen -W "$options" -- "$word")) ;;

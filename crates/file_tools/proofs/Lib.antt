@@ -13,3 +13,6 @@ pub mod SavedPieces
 pub mod SplitHeads
 pub mod SplitPieces
 pub mod BackLaws
+pub mod ProgramLaws
+pub mod CheckLaws
+pub mod RunLaws

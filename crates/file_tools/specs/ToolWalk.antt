@@ -11,11 +11,12 @@ use Rattle.command_walks.specs.Walk.{Walk, Refuses}
 use Rattle.file_tools.specs.SplitWalk.{split_walk}
 use Rattle.file_tools.specs.JoinWalk.{join_walk}
 use Rattle.file_tools.specs.MoveWalk.{move_walk}
+use Rattle.program_walks.specs.ProgramWalks.{check_walk, run_walk}
 use Rattle.command_walks.specs.declared.status.Status.TheVariants as status
 
 -- the commands that are built
 abbrev pub built : List Command
-built = command.Split ∷ command.Join ∷ command.Move ∷ []
+built = command.Split ∷ command.Join ∷ command.Move ∷ command.Check ∷ command.Run ∷ []
 
 -- words that ask for none of them
 unfoldable pub usage_walk : Walk
@@ -25,8 +26,8 @@ abbrev pub asked_walk : Option Asked → Walk
 asked_walk (Some (asks.Split input output p q mb nb)) = split_walk input (record { prefix = output; nprow = p; npcol = q; mb = mb; nb = nb })
 asked_walk (Some (asks.Join prefix output)) = join_walk prefix output
 asked_walk (Some (asks.Move prefix output p q mb nb how)) = move_walk prefix (record { prefix = output; nprow = p; npcol = q; mb = mb; nb = nb })
-asked_walk (Some (asks.Check program)) = usage_walk
-asked_walk (Some (asks.Run program how)) = usage_walk
+asked_walk (Some (asks.Check program)) = check_walk program
+asked_walk (Some (asks.Run program how)) = run_walk program
 asked_walk (Some (asks.Load seed size)) = usage_walk
 asked_walk None = usage_walk
 
@@ -36,7 +37,7 @@ names_asked (Some (asks.Split input output p q mb nb)) = Some (names_by output q
 names_asked (Some (asks.Join prefix output)) = Some (output ∷ [])
 names_asked (Some (asks.Move prefix output p q mb nb how)) = Some (names_by output q (p * q))
 names_asked (Some (asks.Check program)) = Some []
-names_asked (Some (asks.Run program how)) = Some []
+names_asked (Some (asks.Run program how)) = None
 names_asked (Some (asks.Load seed size)) = Some []
 names_asked None = Some []
 

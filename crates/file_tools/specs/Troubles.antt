@@ -5,19 +5,22 @@ use Rattle.mm_reader.specs.Views.{fault_of}
 use Rattle.piece_file.specs.FaultView.{fault_view}
 use Rattle.tool_lines.specs.Texts.{missing, store_fault, at_line, too_many_words, out_of_memory, output_fault}
 use Rattle.tool_lines.specs.FaultTexts.{matrix_fault_text, piece_fault_text}
+use Rattle.program_walks.specs.ProgramTexts.{lang_fault_text, exec_fault_text}
 use Rattle.command_walks.specs.Walk.{Walk}
 use Rattle.command_walks.specs.Outcome.{Leaves}
 use Rattle.command_walks.specs.Following.{StopsWith}
 use Rattle.command_walks.specs.declared.status.Status.{Status}
 use Rattle.command_walks.specs.declared.status.Status.TheVariants as status
 use Rattle.file_tools.specs.declared.trouble.Trouble.{Trouble}
-use Rattle.file_tools.specs.declared.trouble.Trouble.TheVariants.{Missing, Failed, Matrix, Piece, TooMany, NoMemory, Output}
+use Rattle.file_tools.specs.declared.trouble.Trouble.TheVariants.{Missing, Failed, Matrix, Piece, Program, Line, TooMany, NoMemory, Output}
 
 abbrev pub status_of : Trouble → Status
 status_of (Missing name) = status.Store
 status_of (Failed name) = status.Store
 status_of (Matrix name error) = status.Refused
 status_of (Piece name line fault) = status.Refused
+status_of (Program name line what) = status.Refused
+status_of (Line name line fault) = status.Refused
 status_of (TooMany words) = status.Refused
 status_of NoMemory = status.NoMemory
 status_of Output = status.Sink
@@ -27,6 +30,8 @@ line_of (Missing name) = missing name
 line_of (Failed name) = store_fault name
 line_of (Matrix name error) = at_line name error.line (matrix_fault_text (fault_of error.what))
 line_of (Piece name line fault) = at_line name line (piece_fault_text (fault_view fault))
+line_of (Program name line what) = at_line name line (lang_fault_text what)
+line_of (Line name line fault) = at_line name line (exec_fault_text fault)
 line_of (TooMany words) = too_many_words words
 line_of NoMemory = out_of_memory
 line_of Output = output_fault

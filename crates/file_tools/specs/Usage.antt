@@ -7,3 +7,4 @@ unfoldable pub usage : List ℕ
 usage =
     ended (codes "usage: gridtool split IN OUT P Q MB NB") ++ ended (codes "       gridtool join PREFIX OUT")
     ++ ended (codes "       gridtool move PREFIX OUT P Q MB NB [--threads | --seed S]")
+    ++ ended (codes "       gridtool check PROGRAM") ++ ended (codes "       gridtool run PROGRAM [--threads | --seed S]")

@@ -1,11 +1,13 @@
 //! The commands of gridtool on files: the top call.
 #![tactic(auto)]
 
+mod check;
 mod distribution;
 mod join;
 mod moves;
 mod names;
 mod reading;
+mod run;
 mod saving;
 mod split;
 mod split_files;

@@ -8,6 +8,7 @@ ghost use Rattle.file_tools.specs.Usage.{usage};
 
 use crate::trouble::Trouble;
 use command_walks::Status;
+use program_walks::{exec_phrase, lang_phrase};
 use store_io::{Sink, SinkErr};
 use tool_lines::Part::{Text, Words};
 use tool_lines::{matrix_phrase, piece_phrase, say, tell_at, tell_line};
@@ -25,6 +26,14 @@ fn tell<E: Sink>(err: &mut E, trouble: &Trouble)
         }
         Trouble::Piece(name, line, fault) => {
             let phrase = piece_phrase(*fault);
+            tell_at(err, name.as_str(), *line, &phrase)
+        }
+        Trouble::Program(name, line, fault) => {
+            let phrase = lang_phrase(*fault);
+            tell_at(err, name.as_str(), *line, &phrase)
+        }
+        Trouble::Line(name, line, fault) => {
+            let phrase = exec_phrase(*fault);
             tell_at(err, name.as_str(), *line, &phrase)
         }
         Trouble::TooMany(words) => tell_line(err, &[], &[Text("too many words: "), Words(*words)]),
@@ -58,7 +67,7 @@ fn say_usage<E: Sink>(err: &mut E) -> Result<(), SinkErr>
 {
     say(
         err,
-        b"usage: gridtool split IN OUT P Q MB NB\n       gridtool join PREFIX OUT\n       gridtool move PREFIX OUT P Q MB NB [--threads | --seed S]\n",
+        b"usage: gridtool split IN OUT P Q MB NB\n       gridtool join PREFIX OUT\n       gridtool move PREFIX OUT P Q MB NB [--threads | --seed S]\n       gridtool check PROGRAM\n       gridtool run PROGRAM [--threads | --seed S]\n",
     )
 }
 

@@ -8,13 +8,16 @@ ghost use Rattle.file_tools.specs.ToolWalk.{built, walk_of, saved_names};
 ghost use Rattle.command_walks.specs.Outcome.{IsOutcome, IsComplete};
 ghost use Rattle.file_tools.specs.ThereAndBack.{SplitsAndJoins};
 
+use crate::check::run_check;
 use crate::join::run_join;
 use crate::moves::run_move;
+use crate::run::run_file;
 use crate::split::run_split;
 use crate::target::Target;
 use crate::tell::{report, report_usage};
 use crate::trouble::Trouble;
 use command_walks::Status;
+use grid_exec::Mode;
 use piece_file::Name;
 use std::alloc::Global;
 use store_io::{Sink, Store};
@@ -35,6 +38,14 @@ fn seed_of(how: How) -> Option<u64> {
     }
 }
 
+// How a program runs: in the order that a seed draws, or else in the plan's own.
+fn mode_of(how: How) -> Mode {
+    match how {
+        How::Seed(seed) => Mode::Seed(seed),
+        _ => Mode::InOrder,
+    }
+}
+
 // Reads the words, does their command, and tells of its trouble.
 #[tactic(auto, using(crate::proofs::ToolLaws::command_ends, crate::proofs::ToolLaws::usage_ends, crate::proofs::ToolLaws::no_other, crate::proofs::ToolLaws::never_usage))]
 fn run_tool<S: Store, O: Sink, E: Sink>(
@@ -52,7 +63,13 @@ fn run_tool<S: Store, O: Sink, E: Sink>(
 {
     let asked = match read_words(
         alloc,
-        &[Command::Split, Command::Join, Command::Move],
+        &[
+            Command::Split,
+            Command::Join,
+            Command::Move,
+            Command::Check,
+            Command::Run,
+        ],
         words,
     ) {
         Ok(Some(asked)) => asked,
@@ -101,8 +118,14 @@ fn run_tool<S: Store, O: Sink, E: Sink>(
             let done = run_move(alloc, store, out, prefix.as_str(), &target, seed_of(how));
             report(err, done)
         }
-        Asked::Check { .. } => report_usage(err),
-        Asked::Run { .. } => report_usage(err),
+        Asked::Check { program } => {
+            let done = run_check(alloc, store, out, file_named(program));
+            report(err, done)
+        }
+        Asked::Run { program, how } => {
+            let done = run_file(alloc, store, out, file_named(program), mode_of(how));
+            report(err, done)
+        }
         Asked::Load { .. } => report_usage(err),
     }
 }
@@ -111,7 +134,9 @@ fn run_tool<S: Store, O: Sink, E: Sink>(
 /// line without the program's name: `split IN OUT P Q MB NB` spreads the matrix of the file IN over a grid of P by Q
 /// processes in blocks of MB by NB, and writes the pieces `OUT.p.q`; `join PREFIX OUT` joins the pieces `PREFIX.p.q`, and
 /// writes the matrix file OUT; `move PREFIX OUT P Q MB NB` moves the pieces `PREFIX.p.q` to such a grid and blocks, writes
-/// them as `OUT.p.q`, and tells the numbers of meets, messages and copies on the output. It never waits and always returns.
+/// them as `OUT.p.q`, and tells the numbers of meets, messages and copies on the output; `check PROGRAM` checks the grid
+/// program of the file PROGRAM and tells its numbers on the output; `run PROGRAM` runs it, saves and prints. It never waits and
+/// always returns.
 #[tactic(auto, using(spread_cells::proofs::SpreadLaws::by_home, spread_cells::proofs::BackLaws::joins_back, command_walks::proofs::Completeness::complete, crate::proofs::BackLaws::splits_and_joins))]
 pub fn plain_tool<S: Store, O: Sink, E: Sink>(
     alloc: Global,

@@ -1,13 +1,17 @@
 //! What keeps a command from its end.
 ghost use Rattle.std.specs.Prelude.{◌≡◌};
-ghost use Rattle.file_tools.specs.Causes.{of_load, of_piece};
+ghost use Rattle.file_tools.specs.Causes.{of_load, of_piece, of_program, of_exec};
 ghost use Rattle.file_tools.specs.Troubles.{status_of};
 ghost use Rattle.file_tools.specs.declared.trouble.Trouble.TheVariants as trouble;
 
 use command_walks::Status;
+use grid_exec::ExecErr;
+use grid_lang::LangFault;
 use mm_reader::MmErr;
 use mm_text::LoadErr;
 use piece_file::{Name, PieceErr, PieceFault};
+use program_file::ProgramErr;
+use program_meaning::ExecFault;
 use std::alloc::{AllocError, AllocFailed};
 
 /// Why a command didn't come to its end.
@@ -21,6 +25,10 @@ pub(crate) enum Trouble {
     Matrix(Name, MmErr),
     /// The piece of this name is refused at a line, counted from 1.
     Piece(Name, u32, PieceFault),
+    /// The text of the program of this name is refused at a line, counted from 1.
+    Program(Name, u32, LangFault),
+    /// A line of the program of this name, counted from 1, can't be done.
+    Line(Name, u32, ExecFault),
     /// The job has so many words, above the limit.
     TooMany(u64),
     /// Memory was wanted.
@@ -42,14 +50,40 @@ impl Trouble {
         }
     }
 
+    /// Why the program of this name wasn't read.
+    pub(crate) fn opening(name: Name, error: ProgramErr) -> Trouble
+        ensures { result ≡ of_program name error }
+    {
+        match error {
+            ProgramErr::Missing => Trouble::Missing(name),
+            ProgramErr::Failed => Trouble::Failed(name),
+            ProgramErr::Bad { line, what } => Trouble::Program(name, line, what),
+            ProgramErr::NoMemory => Trouble::NoMemory,
+        }
+    }
+
+    /// Why the program of this name, or a file that it loads, is refused.
+    pub(crate) fn planning(name: Name, error: ExecErr) -> Trouble
+        ensures { result ≡ of_exec name error }
+    {
+        match error {
+            ExecErr::Bad { line, fault } => Trouble::Line(name, line, fault),
+            ExecErr::Load { name, err } => Trouble::loading(name, err),
+            ExecErr::NoMemory => Trouble::NoMemory,
+        }
+    }
+
     /// How the tool ends that meets it.
     pub(crate) fn status(&self) -> Status
         ensures { result ≡ status_of self.now }
     {
         match self {
             Trouble::Missing(_) | Trouble::Failed(_) => Status::Store,
-            Trouble::Matrix(_, _) | Trouble::Piece(_, _, _) | Trouble::TooMany(_) =>
-                Status::Refused,
+            Trouble::Matrix(_, _)
+            | Trouble::Piece(_, _, _)
+            | Trouble::Program(_, _, _)
+            | Trouble::Line(_, _, _)
+            | Trouble::TooMany(_) => Status::Refused,
             Trouble::NoMemory => Status::NoMemory,
             Trouble::Output => Status::Sink,
         }

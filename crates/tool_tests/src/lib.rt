@@ -1,14 +1,7 @@
-//! Tests of the words and the tools.
+//! Tests of the words and of the whole tool, and how they run it.
 #![tactic(auto)]
 
-#[cfg(test)]
-mod devices;
-#[cfg(test)]
-mod joins;
-#[cfg(test)]
-mod moves;
-#[cfg(test)]
-mod running;
+pub mod running;
 #[cfg(test)]
 mod tools;
 #[cfg(test)]

@@ -4,7 +4,7 @@ use std::alloc::{AllocError, Global};
 use store_io::{MemSink, MemStore};
 
 /// The words of a line.
-pub(crate) fn words(alloc: Global, line: &str) -> Result<Vec<String>, AllocError> {
+pub fn words(alloc: Global, line: &str) -> Result<Vec<String>, AllocError> {
     let mut words = Vec::new(alloc);
     for word in line.split_whitespace() {
         words.push(String::from_str(alloc, word)?)?;
@@ -13,7 +13,7 @@ pub(crate) fn words(alloc: Global, line: &str) -> Result<Vec<String>, AllocError
 }
 
 /// Whether the store holds a file of these bytes.
-pub(crate) fn holds(store: &MemStore, name: &str, bytes: &[u8]) -> bool {
+pub fn holds(store: &MemStore, name: &str, bytes: &[u8]) -> bool {
     match store.file(name) {
         Some(held) => held == bytes,
         None => false,
@@ -21,7 +21,7 @@ pub(crate) fn holds(store: &MemStore, name: &str, bytes: &[u8]) -> bool {
 }
 
 /// A run of the tool on the words of a line; nothing may be written to the output.
-pub(crate) fn run(
+pub fn run(
     alloc: Global,
     store: &mut MemStore,
     err: &mut MemSink,

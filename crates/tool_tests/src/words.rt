@@ -325,7 +325,7 @@ fn no_help(rt: HostRuntime) -> Result<(), Fail> {
     assert_eq!(rt; status.code(), 2);
     assert_eq!(rt;
         err.bytes(),
-        b"usage: gridtool split IN OUT P Q MB NB\n       gridtool join PREFIX OUT\n       gridtool move PREFIX OUT P Q MB NB [--threads | --seed S]\n".as_slice()
+        b"usage: gridtool split IN OUT P Q MB NB\n       gridtool join PREFIX OUT\n       gridtool move PREFIX OUT P Q MB NB [--threads | --seed S]\n       gridtool check PROGRAM\n       gridtool run PROGRAM [--threads | --seed S]\n".as_slice()
     );
     assert!(rt; out.bytes().is_empty());
     Ok(())

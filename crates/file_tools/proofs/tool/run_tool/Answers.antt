@@ -1,4 +1,4 @@
-use Rattle.std.proofs.Common.{◌≡◌, ◌*◌, List, ℕ, [], ◌∷◌, ap, ap₂, arith}
+use Rattle.std.proofs.Common.{◌≡◌, ◌*◌, List, ℕ, [], ◌∷◌, refl, ap, ap₂, arith}
 use Rattle.std.specs.Prelude.{Some, map, string_bytes}
 use Rattle.std.proofs.lemmas.Grind.{common_steps}
 use Rattle.tool_words.specs.CommandWords.{asked}
@@ -7,6 +7,7 @@ use Rattle.file_tools.specs.Lists.{names_by}
 use Rattle.file_tools.specs.SplitWalk.{split_walk}
 use Rattle.file_tools.specs.JoinWalk.{join_walk}
 use Rattle.file_tools.specs.MoveWalk.{move_walk}
+use Rattle.program_walks.specs.ProgramWalks.{check_walk, run_walk}
 use Rattle.file_tools.specs.ToolWalk.{built}
 use Rattle.file_tools.proofs.ToolLaws.{command_ends}
 use Rattle.file_tools.proofs.tool.run_tool.Goals as goal
@@ -33,3 +34,15 @@ returns-in-Move-clause-outcome g c =
     (ap₂ (λ (prefix output : List ℕ). move_walk prefix (record { prefix = output; nprow = c.in-Move.p; npcol = c.in-Move.q; mb = c.in-Move.mb; nb = c.in-Move.nb })) c.as_str-in-Move-2.ensures.text c.as_str-in-Move.ensures.text)
     (ap (λ (output : List ℕ). Some (names_by output c.in-Move.q (c.in-Move.p * c.in-Move.q))) c.as_str-in-Move.ensures.text)
     c.report-in-Move.ensures.status c.run_move-done.ensures c.report-in-Move.ensures.says c.report-in-Move.ensures.silent
+
+pub returns-in-Check-clause-outcome : goal.returns-in-Check-clause-outcome
+returns-in-Check-clause-outcome g c =
+    let are : Some (asks.Check c.in-Check.program) ≡ asked built (map string_bytes c.args.words.now) = grind (arith, common_steps) in
+    command_ends c.run_check-done.result (map string_bytes c.args.words.now) _ _ _ c.report-in-Check.result (g.S.Store.state c.args.store.now) (g.S.Store.state c.run_check-done.new.store) (g.O.Sink.state c.args.out.now) (g.O.Sink.state c.run_check-done.new.out) (g.E.Sink.state c.args.err.now) (g.E.Sink.state c.report-in-Check.new.err) are
+    (ap check_walk c.file_named-in-Check.ensures) refl c.report-in-Check.ensures.status c.run_check-done.ensures c.report-in-Check.ensures.says c.report-in-Check.ensures.silent
+
+pub returns-in-Run-clause-outcome : goal.returns-in-Run-clause-outcome
+returns-in-Run-clause-outcome g c =
+    let are : Some (asks.Run c.in-Run.program c.in-Run.how) ≡ asked built (map string_bytes c.args.words.now) = grind (arith, common_steps) in
+    command_ends c.run_file-done.result (map string_bytes c.args.words.now) _ _ _ c.report-in-Run.result (g.S.Store.state c.args.store.now) (g.S.Store.state c.run_file-done.new.store) (g.O.Sink.state c.args.out.now) (g.O.Sink.state c.run_file-done.new.out) (g.E.Sink.state c.args.err.now) (g.E.Sink.state c.report-in-Run.new.err) are
+    (ap run_walk c.file_named-in-Run.ensures) refl c.report-in-Run.ensures.status c.run_file-done.ensures c.report-in-Run.ensures.says c.report-in-Run.ensures.silent

@@ -1,10 +1,10 @@
 //! The command `move` on files in memory.
-use crate::running::{holds, words};
 use file_tools::{Status, plain_tool};
 use itoa::Buffer;
 use std::alloc::{AllocError, Global};
 use std::test::Fail;
 use store_io::{MemSink, MemStore};
+use tool_tests::running::{holds, words};
 
 const ROW_0: &[u8; 82] =
     b"%%MatrixMarket matrix array integer general\n%DESC 2 1 0 0 4 1 1 1 0 0 2\n2 1\n10\n30\n";

@@ -1,9 +1,9 @@
 //! The command `join` on files in memory.
-use crate::running::{holds, run};
 use file_tools::Status;
 use std::alloc::{AllocError, Global};
 use std::test::Fail;
 use store_io::{MemSink, MemStore};
+use tool_tests::running::{holds, run};
 
 const BANNER: &str = "%%MatrixMarket matrix array integer general\n";
 

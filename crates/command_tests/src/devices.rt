@@ -1,9 +1,9 @@
 //! The tool on stores and streams without room.
-use crate::running::{holds, run, words};
 use file_tools::{Status, no_memory, plain_tool};
 use std::alloc::{AllocError, Global};
 use std::test::Fail;
 use store_io::{MemSink, MemStore};
+use tool_tests::running::{holds, run, words};
 
 const A: &[u8; 60] = b"%%MatrixMarket matrix array integer general\n3 2\n1\n2\n3\n4\n5\n6\n";
 
@@ -141,7 +141,7 @@ fn an_error_stream_without_room(rt: HostRuntime) -> Result<(), Fail> {
         (
             "split y",
             Status::Words,
-            "usage: gridtool split IN OUT P Q MB NB\n       gridtool join PREFIX OUT\n       gridtool move PREFIX OUT P Q MB NB [--threads | --seed S]\n",
+            "usage: gridtool split IN OUT P Q MB NB\n       gridtool join PREFIX OUT\n       gridtool move PREFIX OUT P Q MB NB [--threads | --seed S]\n       gridtool check PROGRAM\n       gridtool run PROGRAM [--threads | --seed S]\n",
         ),
     ];
     for (line, status, text) in cases {
