@@ -21,7 +21,13 @@ const LARGE: i64 = 1 << 24;
 fn new_descriptors(rt: HostRuntime) -> Result<(), Fail> {
     let world = World::new(5).ok_or("a world")?;
     let contexts = one_context(rt.alloc(), &world)?;
-    let rows: [Row; 18] = [
+    let rows: [Row; 23] = [
+        // an empty matrix is looked at like any other
+        ([0, 4, 0, 2, 0, 0, 0, 1], 0, Some(-4)),
+        ([4, 0, 2, 0, 0, 0, 0, 2], 0, Some(-5)),
+        ([0, 0, 2, 2, 2, 0, 0, 1], 0, Some(-6)),
+        ([0, 0, 2, 2, 0, 2, 0, 1], 0, Some(-7)),
+        ([0, 0, 2, 2, 0, 0, 0, 0], 0, Some(-9)),
         ([4, 4, 2, 2, 0, 0, 0, 2], 0, None),
         ([4, 4, 0, 2, 0, 0, 0, 2], 0, Some(-4)),
         ([4, 4, 2, 2, 2, 0, 0, 2], 0, Some(-6)),
@@ -224,6 +230,11 @@ fn arguments_of_moves(rt: HostRuntime) -> Result<(), Fail> {
     }
     assert_eq!(rt; info_trmr2d(&contexts, 'X', 'X', &args), Err(Info(-1)));
     assert_eq!(rt; info_trmr2d(&contexts, 'U', 'X', &args), Err(Info(-2)));
+    // one bad entry of B's descriptor, and all else good
+    args.descb.desc.nb = 0;
+    assert_eq!(rt; info_gemr2d(&contexts, &args), Err(Info(-1006)));
+    args.descb.desc.nb = 2;
+    assert_eq!(rt; info_gemr2d(&contexts, &args), Ok(()));
     // the context of A's grid lacks rank 1, that of B's grid lacks rank 0, and there is no context 3
     for ictxt in [0, 1, 3, -1] {
         args.ictxt = ictxt;

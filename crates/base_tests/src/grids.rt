@@ -1,8 +1,10 @@
 //! Process grids at worked values, with each refusal.
+ghost use Rattle.std.specs.Prelude.{◌≡◌, ◌<◌, ◌+◌, length, IfOk};
 
 use proc_grid::{
     Contexts, GridErr, GridInfo, Order, Scope, World, gridinit, gridmap, scope_members,
 };
+use std::alloc::Global;
 use std::test::Fail;
 
 #[test]
@@ -122,11 +124,34 @@ fn maps_and_their_refusals(rt: HostRuntime) -> Result<(), Fail> {
     assert_eq!(rt; first_bad, Some(GridErr::Twice(1)));
     let no_rank = gridmap(rt.alloc(), &world, &[0, 1, 9, 1], 2, 2, 2).err();
     assert_eq!(rt; no_rank, Some(GridErr::NoProcess(9)));
-    let lead = gridmap(rt.alloc(), &world, &[0, 1, 2, 3], 1, 2, 2).err();
-    assert_eq!(rt; lead, Some(GridErr::BadLead));
-    let short = gridmap(rt.alloc(), &world, &[0, 1, 2], 2, 2, 2).err();
-    assert_eq!(rt; short, Some(GridErr::BadLead));
+    // by rows it is 0, 0, 9, 1, and by columns 0, 9, 0, 1
+    let by_rows = gridmap(rt.alloc(), &world, &[0, 9, 0, 1], 2, 2, 2).err();
+    assert_eq!(rt; by_rows, Some(GridErr::Twice(0)));
+    // the map's leading dimension, its rows and columns, and the refusal, which comes before that of process 9
+    let cases = [
+        (0, 0, 1, GridErr::BadShape(0, 1)),
+        (1, 1, 65, GridErr::BadShape(1, 65)),
+        (1, 2, 3, GridErr::TooMany(6, 4)),
+        (1, 2, 2, GridErr::BadLead),
+        (5, 2, 2, GridErr::BadLead),
+        (2, 2, 2, GridErr::NoProcess(9)),
+    ];
+    for (lead, nprow, npcol, refusal) in cases {
+        let answer = gridmap(rt.alloc(), &world, &[9, 9, 9, 9], lead, nprow, npcol).err();
+        assert_eq!(rt; answer, Some(refusal), "{lead} {nprow} {npcol}");
+    }
     Ok(())
+}
+
+// Four contexts more, by turns of one row and of one column; the answer is the number of the last.
+fn four_more(alloc: Global, world: &World, contexts: &mut Contexts) -> Result<u32, GridErr>
+    requires { length contexts.old < 60000 }
+    ensures { IfOk result (λ _. length contexts.new ≡ length contexts.old + 4) }
+{
+    contexts.add(gridinit(alloc, world, Order::R, 1, 2)?)?;
+    contexts.add(gridinit(alloc, world, Order::R, 2, 1)?)?;
+    contexts.add(gridinit(alloc, world, Order::R, 1, 2)?)?;
+    Ok(contexts.add(gridinit(alloc, world, Order::R, 2, 1)?)?)
 }
 
 #[test]
@@ -134,12 +159,19 @@ fn contexts_by_number(rt: HostRuntime) -> Result<(), Fail> {
     let world = World::new(2).ok_or("a world")?;
     let mut contexts = Contexts::new(rt.alloc())?;
     assert!(rt; contexts.get(0).is_none());
-    let first = contexts.add(gridinit(rt.alloc(), &world, Order::R, 1, 2)?)?;
-    let second = contexts.add(gridinit(rt.alloc(), &world, Order::R, 2, 1)?)?;
-    assert_eq!(rt; (first, second), (0, 1));
-    assert_eq!(rt; contexts.get(0).map(|context| context.nprow()), Some(1));
-    assert_eq!(rt; contexts.get(1).map(|context| context.nprow()), Some(2));
-    for number in [2, -1, i64::MAX, i64::MIN] {
+    assert_eq!(rt; four_more(rt.alloc(), &world, &mut contexts)?, 3);
+    assert_eq!(rt; four_more(rt.alloc(), &world, &mut contexts)?, 7);
+    assert_eq!(rt; four_more(rt.alloc(), &world, &mut contexts)?, 11);
+    assert_eq!(rt; four_more(rt.alloc(), &world, &mut contexts)?, 15);
+    let last = contexts.add(gridinit(rt.alloc(), &world, Order::R, 1, 2)?)?;
+    assert_eq!(rt; last, 16);
+    for (number, nprow) in [(0, 1), (1, 2), (15, 2), (16, 1)] {
+        assert_eq!(rt;
+            contexts.get(number).map(|context| context.nprow()),
+            Some(nprow)
+        );
+    }
+    for number in [17, -1, i64::MAX, i64::MIN] {
         assert!(rt; contexts.get(number).is_none(), "at {number}");
     }
     Ok(())

@@ -47,5 +47,18 @@ fn the_edges_of_each_letter(rt: HostRuntime) -> Result<(), Fail> {
     }
     let alone = route(rt.alloc(), Top::S, 1, 0)?;
     assert_eq!(rt; alone.len(), 0);
+    // half of an even number of members
+    let even: [(Top, u32, u32, &[(u32, u32)]); 5] = [
+        (Top::S, 2, 0, &[(0, 1)]),
+        (Top::S, 4, 1, &[(1, 2), (2, 3), (1, 0)]),
+        (Top::S, 6, 0, &[(0, 1), (1, 2), (2, 3), (0, 5), (5, 4)]),
+        (Top::M, 4, 1, &[(1, 2), (2, 3), (1, 0)]),
+        (Top::M, 6, 0, &[(0, 1), (1, 2), (2, 3), (0, 4), (4, 5)]),
+    ];
+    for (top, members, source, want) in even {
+        assert!(rt; source < members && members <= 64 && !matches!(top, Top::T(_)));
+        let edges = route(rt.alloc(), top, members, source)?;
+        assert_eq!(rt; edges.as_slice(), want, "{members}");
+    }
     Ok(())
 }

@@ -43,8 +43,14 @@ pub follows_by : {X : Type 0} (r : Result X Trouble) (w here : Walk) (names : Op
 follows_by (Ok x) w here names old mid new before after comes on then = leaves_on status.Done (λ e. cc) w here names [] old mid new before after comes on then
 follows_by (Err t) w here names old mid new before after comes on then = leaves_on (status_of t) (never_words t) w here names (line_of t) old mid new before after comes on then
 
-pub follows_on : {X : Type 0} (r : Result X Trouble) (w here : Walk) (names : Option (List (List ℕ))) (old mid new : Outside) → (IsTrue old.told → Comes w old.files here) → ReadsOn old mid → ((pour : Poured) → Follows r here names mid new pour pour) → (pour : Poured) → Follows r w names old new pour pour
-follows_on r w here names old mid new comes on then pour = follows_by r w here names old mid new pour pour comes on (then pour)
+-- so of a matrix that was read, and of pieces
+pub after_matrix : {X : Type 0} (r : Result X Trouble) (name : List ℕ) (next : Matrix → Walk) (m : Matrix) (names : Option (List (List ℕ))) (old mid new : Outside) (before after : Poured)
+    → ((f : Matrix → Walk) → IsTrue old.told → Comes (matrix_walk name f) old.files (f m)) → ReadsOn old mid → Follows r (next m) names mid new before after → Follows r (matrix_walk name next) names old new before after
+after_matrix r name next m names old mid new before after comes on then = follows_by r (matrix_walk name next) (next m) names old mid new before after (comes next) on then
+
+pub after_pieces : {X : Type 0} (r : Result X Trouble) (prefix : List ℕ) (next : List Piece → Walk) (ps : List Piece) (names : Option (List (List ℕ))) (old mid new : Outside) (before after : Poured)
+    → ((f : List Piece → Walk) → IsTrue old.told → Comes (pieces_walk prefix f) old.files (f ps)) → ReadsOn old mid → Follows r (next ps) names mid new before after → Follows r (pieces_walk prefix next) names old new before after
+after_pieces r prefix next ps names old mid new before after comes on then = follows_by r (pieces_walk prefix next) (next ps) names old mid new before after (comes next) on then
 
 -- a trouble that is passed on
 pub passed_on : {X : Type 0} (r : Result X Trouble) (t : Trouble) (w : Walk) (names : Option (List (List ℕ))) (old new : Outside) → IsErrAnd r (λ u. u ≡ t) → Stops t w names old new → (pour : Poured) → Follows r w names old new pour pour

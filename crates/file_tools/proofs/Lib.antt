@@ -5,10 +5,11 @@ pub mod SavingLaws
 pub mod SplitLaws
 pub mod TurnLaws
 pub mod JoinLaws
+pub mod LoadLaws
 pub mod MoveLaws
 pub mod TellingLaws
 pub mod ToolLaws
-pub mod PieceNames
+pub mod NamesApart
 pub mod SavedPieces
 pub mod SplitHeads
 pub mod SplitPieces

@@ -1,5 +1,5 @@
 -- What `check` and `run` leave of a program that was read, or wasn't.
-use Rattle.std.proofs.Common.{◌≡◌, ℕ, IsTrue, List, Option, Result}
+use Rattle.std.proofs.Common.{ℕ, IsTrue, List, Option, Result}
 use Rattle.store_io.specs.Outside.{Outside, Poured}
 use Rattle.grid_lang.specs.declared.line.Numbered.{Numbered}
 use Rattle.program_file.specs.declared.reading.ProgramErr.{ProgramErr}

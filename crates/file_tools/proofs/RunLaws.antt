@@ -1,5 +1,5 @@
 -- The end of `run`: what it saves, and what it prints.
-use Rattle.std.proofs.Common.{◌≡◌, ℕ, ◌<◌, IsTrue, List, [], ◌++◌, length, Option, None, Result, Ok, Err, refl, sym, ap, ap₂, subst, ◌∙◌}
+use Rattle.std.proofs.Common.{◌≡◌, ℕ, ◌<◌, IsTrue, List, [], ◌++◌, length, None, Result, Ok, Err, refl, sym, ap, ap₂, subst, ◌∙◌}
 use Rattle.std.proofs.lemmas.List.FromFn.{fill_by_all}
 use Rattle.store_io.specs.Outside.{Outside, Poured, SameCounts}
 use Rattle.tool_lines.specs.Texts.{store_fault, output_fault}

@@ -14,7 +14,7 @@ use Rattle.tool_words.specs.Within.{IsTarget}
 use Rattle.file_tools.specs.Target.{Target}
 use Rattle.save_list.specs.Save.{Save, saved}
 use Rattle.file_tools.specs.SplitWalk.{name_of, text_of, save_of, saves_of}
-use Rattle.file_tools.proofs.PieceNames.{same_piece}
+use Rattle.file_tools.proofs.NamesApart.{same_piece}
 
 get_other : (m : Files) (k v q : List ℕ) → (q ≡ k → ⊥) → get (insert m k v) q ≡ get m q
 get_other m k v q other = get_inserted m k v q ∙ by (eq_by_cmp (slice_cmp nat_cmp) q k) refl

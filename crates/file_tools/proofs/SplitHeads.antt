@@ -1,6 +1,6 @@
 -- The heads of the pieces of a split.
 use Rattle.std.proofs.Common.{ℕ, ◌*◌, ◌^◌, ◌<◌, ◌≤◌, arith}
-use Rattle.std.proofs.Math.Nat.{mod-lt, one-le-mul, le-mul_of_pos_right}
+use Rattle.std.proofs.Math.Nat.{mod-lt, le-mul_of_pos_right}
 use Rattle.index_tools.specs.Home.{row_spread}
 use Rattle.index_tools.proofs.HomeLemmas.{below_le}
 use Rattle.piece_grammar.specs.Head.{IsHead}
@@ -34,7 +34,3 @@ head_is t rows columns k is lt rows_fit columns_fit =
       lead = omega arith;
       lead_fits = omega (arith, below, rows_fit);
     }
-
--- that of the first
-pub first_is_head : (t : Target) (rows columns : ℕ) → IsTarget t.nprow t.npcol t.mb t.nb → rows ≤ 2 ^ 24 → columns ≤ 2 ^ 24 → IsHead (head_of t rows columns 0)
-first_is_head t rows columns is rows_fit columns_fit = head_is t rows columns 0 is (one-le-mul is.rows is.columns) rows_fit columns_fit

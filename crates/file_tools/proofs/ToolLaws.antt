@@ -1,17 +1,12 @@
 -- How the tool ends, by what a command answers.
-use Rattle.std.proofs.Common.{◌≡◌, ◌==◌, ◌||◌, ℕ, Bool, true, false, IsTrue, List, [], ◌∷◌, Result, Ok, Err, refl, sym, ap, subst, ◌∙◌, append-nil, inl}
-use Rattle.std.specs.Prelude.{Option, Some, None, find}
+use Rattle.std.proofs.Common.{◌≡◌, ℕ, IsTrue, List, [], Result, Ok, Err, sym, refl, subst, ◌∙◌, append-nil, inl}
+use Rattle.std.specs.Prelude.{Option, Some, None}
 use Rattle.store_io.specs.Outside.{Outside, Poured}
-use Rattle.std.specs.Str.{bytes_eq}
-use Rattle.tool_words.specs.CommandNames as commands
-use Rattle.tool_words.specs.CommandWords.{asked, command_of, command_named}
-use Rattle.tool_words.specs.declared.command.Command.{Command}
-use Rattle.tool_words.specs.declared.command.Command.TheVariants as command
-use Rattle.tool_words.proofs.WithinLaws.{asked_command}
+use Rattle.tool_words.specs.CommandWords.{asked}
 use Rattle.tool_words.specs.declared.asked.Asked.{Asked}
 use Rattle.file_tools.specs.Usage.{usage}
 use Rattle.command_walks.specs.Walk.{Walk}
-use Rattle.file_tools.specs.ToolWalk.{built, names_asked, asked_walk, usage_walk, walk_of, saved_names}
+use Rattle.file_tools.specs.ToolWalk.{names_asked, asked_walk, usage_walk, walk_of, saved_names}
 use Rattle.tool_lines.specs.Saying.{Gains}
 use Rattle.command_walks.specs.Outcome.{IsOutcome, Leaves}
 use Rattle.file_tools.specs.Troubles.{Follows, status_of, status_in, line_in}
@@ -37,7 +32,7 @@ not_done (trouble.TooMany words) e = cc
 not_done trouble.NoMemory e = cc
 not_done trouble.Output e = cc
 
-asked_ends : (words : List (List ℕ)) (o : Option Asked) (s : Status) (old new : Outside) (before after quiet said : Poured) → o ≡ asked built words → IsOutcome s (asked_walk o) (names_asked o) old new before after quiet said → IsOutcome s (walk_of words) (saved_names words) old new before after quiet said
+asked_ends : (words : List (List ℕ)) (o : Option Asked) (s : Status) (old new : Outside) (before after quiet said : Poured) → o ≡ asked words → IsOutcome s (asked_walk o) (names_asked o) old new before after quiet said → IsOutcome s (walk_of words) (saved_names words) old new before after quiet said
 unfolding walk_of saved_names
 asked_ends words o s old new before after quiet said e = subst (λ (p : Option Asked). IsOutcome s (asked_walk p) (names_asked p) old new before after quiet said) e
 
@@ -46,7 +41,7 @@ leaves_in (Ok x) w names old new before after h = h
 leaves_in (Err t) w names old new before after h = h
 
 -- a command that follows its walk
-pub command_ends : {X : Type 0} (r : Result X Trouble) (words : List (List ℕ)) (o : Option Asked) (w : Walk) (names : Option (List (List ℕ))) (s : Status) (old new : Outside) (before after quiet said : Poured) → o ≡ asked built words → w ≡ asked_walk o → names ≡ names_asked o → s ≡ status_in r → Follows r w names old new before after
+pub command_ends : {X : Type 0} (r : Result X Trouble) (words : List (List ℕ)) (o : Option Asked) (w : Walk) (names : Option (List (List ℕ))) (s : Status) (old new : Outside) (before after quiet said : Poured) → o ≡ asked words → w ≡ asked_walk o → names ≡ names_asked o → s ≡ status_in r → Follows r w names old new before after
     → (IsTrue quiet.told → Gains quiet said (line_in r)) → (s ≡ status.Done → said ≡ quiet) → IsOutcome s (walk_of words) (saved_names words) old new before after quiet said
 command_ends r words o w names s old new before after quiet said are walk named is follows says silent =
     let P : Walk → Type 0 = λ v. Leaves s v names (line_in r) old new before after in
@@ -59,7 +54,7 @@ unfolding usage_walk
 usage_leaves names old pour = record { walk_is = refl; untouched = record { files = refl; opens = refl }; counts = record { faults = refl; misses = refl }; silent = refl }
 
 -- words that ask for no command
-pub usage_ends : (words : List (List ℕ)) (o : Option Asked) (s : Status) (old : Outside) (pour quiet said : Poured) → o ≡ asked built words → asked_walk o ≡ usage_walk → s ≡ status.Words → (IsTrue quiet.told → Gains quiet said usage) → IsOutcome s (walk_of words) (saved_names words) old old pour pour quiet said
+pub usage_ends : (words : List (List ℕ)) (o : Option Asked) (s : Status) (old : Outside) (pour quiet said : Poured) → o ≡ asked words → asked_walk o ≡ usage_walk → s ≡ status.Words → (IsTrue quiet.told → Gains quiet said usage) → IsOutcome s (walk_of words) (saved_names words) old old pour pour quiet said
 usage_ends words o s old pour quiet said are is outside says =
     let Q : Walk → Type 0 = λ w. Leaves status.Words w (names_asked o) usage old old pour pour in
     let R : Status → Type 0 = λ t. Leaves t (asked_walk o) (names_asked o) usage old old pour pour in
@@ -68,55 +63,7 @@ usage_ends words o s old pour quiet said are is outside says =
     words_not_done : (s : Status) → s ≡ status.Words → s ≡ status.Done → ⊥
     words_not_done s e f = cc
 
--- ---- words in the table and outside
-
-abbrev number : Command → ℕ
-number command.Split = 0
-number command.Join = 1
-number command.Move = 2
-number command.Check = 3
-number command.Run = 4
-number command.Load = 5
-
-abbrev pub is_among : Command → List Command → Bool
-is_among c [] = false
-is_among c (d ∷ ds) = (number c == number d) || is_among c ds
-
-itself : (c : Command) → (number c == number c) ≡ true
-itself command.Split = refl
-itself command.Join = refl
-itself command.Move = refl
-itself command.Check = refl
-itself command.Run = refl
-itself command.Load = refl
-
-or_true : (b c : Bool) → c ≡ true → (b || c) ≡ true
-or_true true c e = refl
-or_true false c e = e
-
-found : (p : Command → Bool) (ds : List Command) (c : Command) → find p ds ≡ Some c → is_among c ds ≡ true
-found p [] c e = absurd cc
-found p (d ∷ ds) c e = by (p d) refl e (λ rest. found p ds c rest)
-  where
-    by : (b : Bool) → p d ≡ b → find p (d ∷ ds) ≡ Some c → (find p ds ≡ Some c → is_among c ds ≡ true) → is_among c (d ∷ ds) ≡ true
-    by true f e later =
-        let is : Some d ≡ Some c = rw f at e in
-        let same : d ≡ c = cc in
-        ap (λ (b : Bool). b || is_among c ds) (ap (λ (t : Command). number c == number t) same ∙ itself c)
-    by false f e later = let rest : find p ds ≡ Some c = rw f at e in or_true (number c == number d) (is_among c ds) (later rest)
-
-named : (word : List ℕ) (cs : List Command) (c : Command) → command_named cs word ≡ Some c → is_among c cs ≡ true
-named word cs c e = found (λ d. bytes_eq (commands.name_of d) word) cs c e
-
--- no words ask for a command that isn't built
-pub no_other : (words : List (List ℕ)) (a : Asked) → Some a ≡ asked built words → is_among (command_of a) built ≡ false → asked built words ≡ None
-no_other words a e other =
-    let first = asked_command built words a (sym e) in
-    let among : is_among (command_of a) built ≡ true = named first.0 built (command_of a) first.1 in
-    let clash : true ≡ false = sym among ∙ other in
-    absurd cc
-
--- a command that is built never ends so
+-- no command ends so
 pub never_usage : {X : Type 0} (r : Result X Trouble) (s : Status) → s ≡ status_in r → s ≡ status.Words → ⊥
 never_usage (Ok x) s e f = cc
 never_usage (Err t) s e f = never_words t (sym e ∙ f)

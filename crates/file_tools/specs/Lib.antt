@@ -20,6 +20,8 @@ pub use Rattle.piece_grammar.specs.Pieces
 pub use Rattle.piece_grammar.specs.Faults as PieceFaults
 pub use Rattle.piece_file.specs.Gathering
 pub use Rattle.mm_grammar.specs.Faults
+pub use Rattle.drawn_jobs.specs.Drawing
+pub use Rattle.drawn_jobs.specs.Jobs
 pub use Rattle.tool_lines.specs.Texts
 pub use Rattle.tool_lines.specs.FaultTexts
 pub use Rattle.save_list.specs.Save
@@ -36,5 +38,6 @@ pub mod TargetView
 pub mod SplitWalk
 pub mod JoinWalk
 pub mod MoveWalk
+pub mod LoadWalk
 pub mod ToolWalk
 pub mod ThereAndBack

@@ -3,12 +3,12 @@ use Rattle.std.specs.Prelude.{ℕ, ◌*◌, List, [], ◌∷◌, codes}
 use Rattle.std.specs.Fmt.{decimal}
 use Rattle.line_text.specs.Lines.{ended}
 use Rattle.mm_text.specs.LocalMatrix.{local_matrix}
+use Rattle.descriptor.specs.declared.moves.Moved.{Moved}
 use Rattle.piece_grammar.specs.Head.{Piece}
 use Rattle.piece_grammar.specs.PlainPiece.{piece_text}
 use Rattle.mr2d.specs.Homes.{Arrays, cells_of}
-use Rattle.piece_moves.specs.PieceMove.{first_of, ranks_for, move_for, state_after, move_words}
-use Rattle.move_numbers.specs.MoveNumbers.{move_messages, move_copies}
-use Rattle.piece_moves.specs.Numbers.{meets_of_whole}
+use Rattle.piece_moves.specs.PieceMove.{first_of, state_after, move_words}
+use Rattle.piece_moves.specs.Numbers.{numbers_for}
 use Rattle.file_tools.specs.Target.{Target}
 use Rattle.tool_lines.specs.Texts.{joined}
 use Rattle.save_list.specs.Save.{Save, numbered}
@@ -17,28 +17,19 @@ use Rattle.command_walks.specs.ReadingWalks.{pieces_walk}
 use Rattle.file_tools.specs.SplitWalk.{distribution_of, head_of, name_of}
 
 -- piece k of a matrix of so many rows and columns, whose local array stands with number 1 on rank k, is saved under its name
-abbrev pub moved_text : Target → (rows columns : ℕ) → Arrays → ℕ → List ℕ
-moved_text t rows columns arrays k = piece_text (head_of t rows columns k) (local_matrix (cells_of arrays k 1))
-
 abbrev pub save_moved : Target → (rows columns : ℕ) → Arrays → ℕ → Save
-save_moved t rows columns arrays k = record { name = name_of t k; text = moved_text t rows columns arrays k }
+save_moved t rows columns arrays k = record { name = name_of t k; text = piece_text (head_of t rows columns k) (local_matrix (cells_of arrays k 1)) }
 
 abbrev pub saves_moved : Target → (rows columns : ℕ) → Arrays → List Save
 saves_moved t rows columns arrays = numbered (save_moved t rows columns arrays) (t.nprow * t.npcol)
 
 -- the numbers of a move as its output
-abbrev pub numbers_line : (meets messages copies : ℕ) → List ℕ
-numbers_line meets messages copies = ended (joined (codes "meets " ∷ decimal meets ∷ codes " messages " ∷ decimal messages ∷ codes " copies " ∷ decimal copies ∷ []))
-
-abbrev pub numbers_of : Target → List Piece → List ℕ
-numbers_of t ps =
-    let mv = move_for ps (distribution_of t) in
-    let ranks = ranks_for (first_of ps) (distribution_of t) in
-    numbers_line (meets_of_whole mv) (move_messages mv ranks) (move_copies mv ranks)
+abbrev pub numbers_line : Moved → List ℕ
+numbers_line moved = ended (joined (codes "meets " ∷ decimal moved.meets ∷ codes " messages " ∷ decimal moved.messages ∷ codes " copies " ∷ decimal moved.copies ∷ []))
 
 -- a move saves the arrays of the plain move, and tells its numbers
 abbrev pub end_walk : Target → List Piece → Walk
-end_walk t ps = Ends (saves_moved t (first_of ps).m (first_of ps).n (state_after ps (distribution_of t)).arrays) (numbers_of t ps)
+end_walk t ps = Ends (saves_moved t (first_of ps).m (first_of ps).n (state_after ps (distribution_of t)).arrays) (numbers_line (numbers_for ps (distribution_of t)))
 
 -- if it is within the limit
 abbrev pub moved_walk : Target → List Piece → Walk

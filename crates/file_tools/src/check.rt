@@ -17,7 +17,7 @@ use tool_lines::Part::{Count, Text, Words};
 use tool_lines::say_to_end;
 
 // Tells the numbers of a program.
-#[tactic(auto, using(crate::proofs::CheckLaws::numbers_told, crate::proofs::CheckLaws::numbers_lost))]
+#[tactic(auto, using(crate::proofs::CheckLaws::numbers_print))]
 fn tell_numbers<O: Sink>(out: &mut O, sum: &Summary) -> Result<(), SinkErr>
     ensures { Prints result (summary_text sum.now.ranks sum.now.operations sum.now.messages sum.now.words)
         (O.state out.old) (O.state out.new) }
@@ -32,10 +32,7 @@ fn tell_numbers<O: Sink>(out: &mut O, sum: &Summary) -> Result<(), SinkErr>
         Text("\nwords "),
         Words(sum.words),
     ];
-    match say_to_end(out, &line) {
-        Ok(()) => Ok(()),
-        Err(error) => Err(error),
-    }
+    say_to_end(out, &line)
 }
 
 // Checks a program, and tells its numbers.

@@ -117,6 +117,7 @@ fn join_whole<S: Store>(
 }
 
 /// Gathers the pieces, joins them, and writes the whole matrix to the file `output`.
+#[tactic(auto, using(crate::proofs::FollowLaws::passed_on))]
 pub(crate) fn run_join<S: Store>(
     alloc: Global,
     store: &mut S,

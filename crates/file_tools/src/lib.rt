@@ -4,6 +4,7 @@
 mod check;
 mod distribution;
 mod join;
+mod load;
 mod moves;
 mod names;
 mod reading;
@@ -17,5 +18,11 @@ mod tool;
 mod trouble;
 
 pub use command_walks::Status;
-pub use tell::no_memory;
-pub use tool::plain_tool;
+pub use moves::{MovedFiles, save_moved};
+pub use names::{LIMIT, PieceNames};
+pub use reading::read_pieces;
+pub use run::give_results;
+pub use target::Target;
+pub use tell::{no_memory, report};
+pub use tool::{file_named, plain_tool};
+pub use trouble::Trouble;

@@ -8,14 +8,14 @@ use crate::target::Target;
 use piece_file::{Name, piece_name};
 use std::alloc::{AllocError, Global};
 
-/// The words of a job: all its local arrays, and all that moves.
-pub(crate) const LIMIT: u64 = 1 << 26;
+/// The limit of the words of a job: all its local arrays, and all that moves.
+pub const LIMIT: u64 = 1 << 26;
 
 /// The names of the pieces of a target, by rows of its grid.
 #[derive(Drop)]
-pub(crate) struct PieceNames<'a> {
-    pub(crate) target: Target<'a>,
-    pub(crate) names: Vec<String>,
+pub struct PieceNames<'a> {
+    pub target: Target<'a>,
+    pub names: Vec<String>,
     pub ghost named: { texts_of names.items ≡ names_for (target_view target) },
 }
 
@@ -57,7 +57,7 @@ fn take_name(mut names: Vec<String>, k: u32) -> Name
 
 impl<'a> PieceNames<'a> {
     /// All names of the pieces of a target.
-    pub(crate) fn new(alloc: Global, target: &Target<'a>) -> Result<PieceNames<'a>, AllocError>
+    pub fn new(alloc: Global, target: &Target<'a>) -> Result<PieceNames<'a>, AllocError>
         ensures { IfOk result (λ p. p.target ≡ target.now) }
     {
         let names = piece_names(

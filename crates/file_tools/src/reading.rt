@@ -37,7 +37,7 @@ pub(crate) fn read_input<S: Store>(
 
 /// Reads all pieces of a prefix. Whatever a walk does with them, it comes so far, or stops here.
 #[tactic(auto, using(command_walks::proofs::GatheringLaws::pieces_come, crate::proofs::FollowLaws::gather_stops, command_walks::proofs::ReadingLaws::reads_on))]
-pub(crate) fn read_pieces<S: Store>(
+pub fn read_pieces<S: Store>(
     alloc: Global,
     store: &mut S,
     prefix: &str,

@@ -18,9 +18,9 @@ use save_list::SaveList;
 use std::alloc::Global;
 use store_io::{Sink, Store};
 
-// Saves what a program saves, and then prints what it prints.
+/// Saves what a program saves, and then prints what it prints.
 #[tactic(auto, using(crate::proofs::RunLaws::result_stops, crate::proofs::RunLaws::results_told, crate::proofs::RunLaws::results_lost))]
-fn give_results<S: Store, O: Sink>(
+pub fn give_results<S: Store, O: Sink>(
     store: &mut S,
     out: &mut O,
     finished: Finished,

@@ -28,7 +28,7 @@ fn save_texts<S: Store, L: SaveList + Drop>(store: &mut S, list: L) -> Result<()
 }
 
 /// Saves all texts of a list, where nothing is told on the output.
-#[tactic(auto, using(crate::proofs::SavingLaws::nothing_more))]
+#[tactic(auto, using(crate::proofs::SavingLaws::nothing_more, crate::proofs::FollowLaws::passed_on))]
 pub(crate) fn save_to_end<S: Store, L: SaveList + Drop>(
     store: &mut S,
     list: L,
@@ -36,14 +36,12 @@ pub(crate) fn save_to_end<S: Store, L: SaveList + Drop>(
     ensures { (pour : Poured) → Follows result (Ends (numbered (L.save_at list) (L.count list)) [])
         (Some (names_of (numbered (L.save_at list) (L.count list)))) (S.state store.old) (S.state store.new) pour pour }
 {
-    match save_texts(store, list) {
-        Ok(()) => Ok(()),
-        Err(trouble) => Err(trouble),
-    }
+    save_texts(store, list)?;
+    Ok(())
 }
 
 /// Saves all texts of a list, and then tells a line on the output.
-#[tactic(auto, using(crate::proofs::SavingLaws::told_line, crate::proofs::SavingLaws::lost_line))]
+#[tactic(auto, using(crate::proofs::SavingLaws::told_line, crate::proofs::SavingLaws::lost_line, crate::proofs::FollowLaws::passed_on))]
 pub(crate) fn save_and_tell<S: Store, O: Sink, L: SaveList + Drop>(
     store: &mut S,
     out: &mut O,
@@ -54,10 +52,7 @@ pub(crate) fn save_and_tell<S: Store, O: Sink, L: SaveList + Drop>(
         (Some (names_of (numbered (L.save_at list) (L.count list)))) (S.state store.old) (S.state store.new)
         (O.state out.old) (O.state out.new) }
 {
-    match save_texts(store, list) {
-        Ok(()) => {}
-        Err(trouble) => return Err(trouble),
-    }
+    save_texts(store, list)?;
     match say_to_end(out, line) {
         Ok(()) => Ok(()),
         Err(_) => Err(Trouble::Output),

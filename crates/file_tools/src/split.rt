@@ -1,8 +1,8 @@
 //! The command `split`.
-ghost use Rattle.std.specs.Prelude.{◌≡◌, ◌≤◌, ◌*◌, ◌^◌, Some};
+ghost use Rattle.std.specs.Prelude.{◌≡◌, ◌≤◌, ◌^◌, Some};
 ghost use Rattle.store_io.specs.Outside.{Poured};
 ghost use Rattle.mm_text.specs.Loading.{matrix_of};
-ghost use Rattle.file_tools.specs.SplitWalk.{words_before, job_words, job_walk, split_walk, piece_names};
+ghost use Rattle.file_tools.specs.SplitWalk.{job_words, job_walk, split_walk, piece_names};
 ghost use Rattle.file_tools.specs.TargetView.{target_view};
 ghost use Rattle.file_tools.specs.Troubles.{Follows};
 
@@ -18,19 +18,6 @@ use piece_moves::words_over;
 use std::alloc::Global;
 use store_io::Store;
 
-// The words of all pieces' local arrays.
-fn pieces_words(target: &Target<'_>, rows: u32, columns: u32) -> u64
-    requires rows_fit { rows ≤ 2 ^ 24 }
-    requires columns_fit { columns ≤ 2 ^ 24 }
-    ensures words { result ≡ words_before (target_view target.now) rows columns
-        (target.now.nprow * target.now.npcol) }
-    ensures bound { result ≤ 64 * 2 ^ 48 }
-{
-    let to = target.distribution();
-    let first = to.head(rows, columns, 0);
-    words_over(&first, &to)
-}
-
 // The words of the job: the matrix as one local array, those of all pieces, and all that moves.
 fn count_words(target: &Target<'_>, rows: u32, columns: u32) -> u64
     requires rows_fit { rows ≤ 2 ^ 24 }
@@ -38,7 +25,7 @@ fn count_words(target: &Target<'_>, rows: u32, columns: u32) -> u64
     ensures { result ≡ job_words (target_view target.now) rows columns }
 {
     u64::from(rows.max(1)) * u64::from(columns.max(1))
-        + pieces_words(target, rows, columns)
+        + words_over(rows, columns, &target.distribution())
         + u64::from(rows) * u64::from(columns)
 }
 
@@ -64,6 +51,7 @@ fn split_whole<S: Store>(
 }
 
 /// Reads the matrix of the file `input`, spreads it over the grid, and writes the pieces.
+#[tactic(auto, using(crate::proofs::FollowLaws::passed_on))]
 pub(crate) fn run_split<S: Store>(
     alloc: Global,
     store: &mut S,

@@ -90,11 +90,8 @@ impl SaveList for SplitFiles<'_> {
     #[tactic(auto, using(crate::proofs::SplitLaws::saves_along))]
     fn save_one<S: Store>(&self, store: &mut S, number: u32) -> Result<(), StoreErr> {
         let piece = self.piece_at(number);
-        let head = self
-            .pieces
-            .target
-            .distribution()
-            .head(self.whole.rows, self.whole.columns, number);
+        let target = &self.pieces.target;
+        let head = target.head(self.whole.rows, self.whole.columns, number);
         write_cells(store, self.pieces.name(number), &head, &piece)
     }
 

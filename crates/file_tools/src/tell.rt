@@ -44,7 +44,7 @@ fn tell<E: Sink>(err: &mut E, trouble: &Trouble)
 
 /// Tells why a command didn't come to its end, if it didn't, and answers how the tool ends.
 #[tactic(auto, using(crate::proofs::ToolLaws::says_nothing, crate::proofs::ToolLaws::not_done))]
-pub(crate) fn report<E: Sink>(err: &mut E, done: Result<(), Trouble>) -> Status
+pub fn report<E: Sink>(err: &mut E, done: Result<(), Trouble>) -> Status
     ensures status { result ≡ status_in done }
     ensures says { IsTrue (E.state err.old).told → Gains (E.state err.old) (E.state err.new) (line_in done) }
     ensures silent { result ≡ status.Done → E.state err.new ≡ E.state err.old }
@@ -58,7 +58,7 @@ pub(crate) fn report<E: Sink>(err: &mut E, done: Result<(), Trouble>) -> Status
     }
 }
 
-// The usage of the commands that are built.
+// The usage of all commands.
 #[tactic(auto, unfolding(crate::specs::Usage::usage))]
 fn say_usage<E: Sink>(err: &mut E) -> Result<(), SinkErr>
     ensures says { IsTrue (E.state err.old).told →
@@ -67,7 +67,7 @@ fn say_usage<E: Sink>(err: &mut E) -> Result<(), SinkErr>
 {
     say(
         err,
-        b"usage: gridtool split IN OUT P Q MB NB\n       gridtool join PREFIX OUT\n       gridtool move PREFIX OUT P Q MB NB [--threads | --seed S]\n       gridtool check PROGRAM\n       gridtool run PROGRAM [--threads | --seed S]\n",
+        b"usage: gridtool split IN OUT P Q MB NB\n       gridtool join PREFIX OUT\n       gridtool move PREFIX OUT P Q MB NB [--threads | --seed S]\n       gridtool check PROGRAM\n       gridtool run PROGRAM [--threads | --seed S]\n       gridtool load SEED SIZE\n",
     )
 }
 

@@ -16,7 +16,7 @@ use std::alloc::{AllocError, AllocFailed};
 
 /// Why a command didn't come to its end.
 #[derive(Debug, Drop)]
-pub(crate) enum Trouble {
+pub enum Trouble {
     /// There is no file of this name.
     Missing(Name),
     /// The store failed at the file of this name.
@@ -39,7 +39,7 @@ pub(crate) enum Trouble {
 
 impl Trouble {
     /// Why the matrix file of this name wasn't read.
-    pub(crate) fn loading(name: Name, error: LoadErr) -> Trouble
+    pub fn loading(name: Name, error: LoadErr) -> Trouble
         ensures { result ≡ of_load name error }
     {
         match error {
@@ -51,7 +51,7 @@ impl Trouble {
     }
 
     /// Why the program of this name wasn't read.
-    pub(crate) fn opening(name: Name, error: ProgramErr) -> Trouble
+    pub fn opening(name: Name, error: ProgramErr) -> Trouble
         ensures { result ≡ of_program name error }
     {
         match error {
@@ -63,7 +63,7 @@ impl Trouble {
     }
 
     /// Why the program of this name, or a file that it loads, is refused.
-    pub(crate) fn planning(name: Name, error: ExecErr) -> Trouble
+    pub fn planning(name: Name, error: ExecErr) -> Trouble
         ensures { result ≡ of_exec name error }
     {
         match error {
@@ -74,7 +74,7 @@ impl Trouble {
     }
 
     /// How the tool ends that meets it.
-    pub(crate) fn status(&self) -> Status
+    pub fn status(&self) -> Status
         ensures { result ≡ status_of self.now }
     {
         match self {

@@ -49,7 +49,7 @@ use Rattle.grid_exec.specs.JobView.{JobView, IsReady, arrays_after}
 use Rattle.grid_exec.specs.Jobs.{EveryEndIsTheProgram, IsJobOf}
 use Rattle.grid_exec.specs.Ending.{EndsAt, IsPlanEnd, AsksFor}
 use Rattle.grid_exec.specs.Answers.{IsProgramAnswer}
-use Rattle.grid_exec.proofs.LaterLines.{first_known, rest_known}
+use Rattle.grid_exec.proofs.LaterLines.{not_front, first_known, rest_known}
 use Rattle.grid_exec.proofs.FrontLines.{plain_gives}
 use Rattle.grid_exec.proofs.Beginnings.{begun_is}
 use Rattle.grid_exec.proofs.CheckSteps.{rest_is}
@@ -156,10 +156,6 @@ front_stop store h₀ n p lines (err.Load name c) is none empty h = subst (λ (s
 front_stop store h₀ n p lines err.NoMemory is none empty h = tt
 
 -- ---- what the results ask for
-
-not_front : (x : Kind) → (x ≡ kind.Declaration → ⊥) → (x ≡ kind.Words → ⊥) → (x ≡ kind.Declaration) ⊎ (x ≡ kind.Words) → ⊥
-not_front x a b (inl e) = a e
-not_front x a b (inr e) = b e
 
 matrix_there : (d : Declared) (k : Known) (v : ℕ) → Stands d k → slice_get k.arrays v ≡ Some false → v < length d.spreads.items
 matrix_there d k v h e = subst (λ n. v < n) (ap length h.arrays ∙ length-map d.spreads.items is_some) (slice_get_within k.arrays v false e)

@@ -32,7 +32,7 @@ not_later : (x : Kind) → (x ≡ kind.Exchange → ⊥) → (x ≡ kind.Outcome
 not_later x a b (inl e) = a e
 not_later x a b (inr e) = b e
 
-not_front : (x : Kind) → (x ≡ kind.Declaration → ⊥) → (x ≡ kind.Words → ⊥) → (x ≡ kind.Declaration) ⊎ (x ≡ kind.Words) → ⊥
+pub not_front : (x : Kind) → (x ≡ kind.Declaration → ⊥) → (x ≡ kind.Words → ⊥) → (x ≡ kind.Declaration) ⊎ (x ≡ kind.Words) → ⊥
 not_front x a b (inl e) = a e
 not_front x a b (inr e) = b e
 

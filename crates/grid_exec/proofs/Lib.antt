@@ -5,6 +5,7 @@ pub mod HeldLaws
 pub mod WordSteps
 pub mod LoadSteps
 pub mod FrontLines
+pub mod RoomLaws
 pub mod NodeLaws
 pub mod CheckSteps
 pub mod EndLaws

@@ -1,6 +1,6 @@
 -- The memories of all ranks.
-use Rattle.std.proofs.Common.{◌≡◌, ℕ, zero, suc, ◌+◌, ◌<◌, ◌≤◌, List, [], ◌∷◌, ◌++◌, length, map, Option, Some, None, Vec, Global, refl, sym, ap, subst, ◌∙◌, inl, inr, arith, length-append}
-use Rattle.std.specs.Prelude.{◌⊎◌, slice_get, IfSome}
+use Rattle.std.proofs.Common.{◌≡◌, ℕ, ◌+◌, ◌<◌, ◌≤◌, List, [], ◌∷◌, ◌++◌, length, map, Option, Some, None, Vec, Global, refl, sym, ap, subst, ◌∙◌, inl, inr, arith, length-append}
+use Rattle.std.specs.Prelude.{◌⊎◌, slice_get, slice_index_or, IfSome}
 use Rattle.std.proofs.lemmas.List.{length-map}
 use Rattle.std.proofs.lemmas.Option.{slice_get_within}
 use Rattle.pack_words.specs.declared.rank_op.RankOp.{RankOp}
@@ -9,7 +9,7 @@ use Rattle.pack_words.specs.RankOps.{RankState}
 use Rattle.pack_words.specs.GridState.{HasRoom, arrays_held, scratch_needed}
 use Rattle.array_contents.specs.Contents.{arrays_of}
 use Rattle.line_plans.proofs.ArrayLaws.{get_front, get_last}
-use Rattle.grid_exec.specs.Nodes.{HaveRoom}
+use Rattle.grid_exec.specs.Nodes.{AreRooms, HaveRoom}
 
 pub no_nodes : (steps : List (ℕ × RankOp)) → HaveRoom steps []
 no_nodes steps r n e = absurd cc
@@ -33,9 +33,13 @@ pub one_more_held : (nodes grown : List RankState) (node : RankState) (ranks : L
 one_more_held nodes grown node ranks mine e same h =
     ap (map arrays_held) e ∙ arrays_more nodes node ∙ ap (λ (xs : List (List LocalCells)). xs ++ arrays_held node ∷ []) h ∙ ap (λ (x : List LocalCells). arrays_of ranks ++ x ∷ []) same ∙ sym (yielded_more ranks mine)
 
-pub one_more_room : (steps : List (ℕ × RankOp)) (nodes grown : List RankState) (node : RankState) (rank : ℕ) → grown ≡ nodes ++ node ∷ [] → rank ≡ length nodes → HaveRoom steps nodes → scratch_needed rank steps ≤ length node.held → HaveRoom steps grown
-one_more_room steps nodes grown node rank e at h room = subst (λ (ns : List RankState). HaveRoom steps ns) (sym e) all
+pub one_more_room : (steps : List (ℕ × RankOp)) (rooms : List ℕ) (nodes grown : List RankState) (node : RankState) (rank : ℕ) → grown ≡ nodes ++ node ∷ [] → rank ≡ length nodes → HaveRoom steps nodes
+    → AreRooms steps rooms → rank < length rooms → length node.held ≡ slice_index_or rooms rank 0 → HaveRoom steps grown
+one_more_room steps rooms nodes grown node rank e at h rooms_are inside held = subst (λ (ns : List RankState). HaveRoom steps ns) (sym e) all
   where
+    room : scratch_needed rank steps ≤ length node.held
+    room = let needed = rooms_are rank inside in omega (arith, needed, held)
+
     all : HaveRoom steps (nodes ++ node ∷ [])
     all r n get =
         let lt = slice_get_within (nodes ++ node ∷ []) r n get in

@@ -14,6 +14,7 @@ mod loading;
 mod nodes;
 mod plan;
 mod planning;
+mod rooms;
 mod running;
 mod stopping;
 mod summary;

@@ -1,26 +1,26 @@
 //! The memories of the ranks before the first exchange.
 
-ghost use Rattle.std.specs.Prelude.{◌≡◌, ◌≤◌, ◌<◌, length, map, IfOk};
-ghost use Rattle.pack_words.specs.GridState.{HasRoom, arrays_held, scratch_needed};
+ghost use Rattle.std.specs.Prelude.{◌≡◌, ◌<◌, length, map, slice_index_or, IfOk};
+ghost use Rattle.pack_words.specs.GridState.{HasRoom, arrays_held};
 ghost use Rattle.array_contents.specs.Contents.{arrays_of};
 
+use crate::rooms::rooms_of;
 use msg_core::Plan;
 use pack_words::{LocalArray, RankMem, RankOp};
-use scope_ops::scratch_of;
 use std::alloc::{AllocError, Global};
 
-// The memory of a rank, with room for its combines.
+// The memory of a rank, with the room for its combines.
 fn node_of(
     alloc: Global,
     arrays: Vec<LocalArray>,
-    plan: &Plan<RankOp>,
+    rooms: &[u32],
     rank: u32,
 ) -> Result<RankMem, AllocError>
-    requires { rank < plan.now.ranks }
+    requires { rank < length rooms.now }
     ensures arrays { IfOk result (λ m. arrays_held m ≡ arrays.items) }
-    ensures room { IfOk result (λ m. scratch_needed rank plan.now.steps ≤ length m.held) }
+    ensures room { IfOk result (λ m. length m.held ≡ slice_index_or rooms.now rank 0) }
 {
-    RankMem::new(alloc, arrays, scratch_of(plan, rank))
+    RankMem::new(alloc, arrays, rooms[rank as usize])
 }
 
 /// The memories of all ranks, with these arrays.
@@ -36,10 +36,11 @@ pub(crate) fn nodes_of(
     ensures room { IfOk result (λ v. HasRoom plan.now.steps v.items) }
 {
     let _ranks = plan.ranks();
+    let rooms = rooms_of(alloc, plan)?;
     let mut nodes = Vec::with_capacity(alloc, arrays.len())?;
     for mine in arrays {
         let rank = nodes.len() as u32;
-        let node = node_of(alloc, mine, plan, rank)?;
+        let node = node_of(alloc, mine, &rooms, rank)?;
         nodes.push(node)?;
     }
     Ok(nodes)

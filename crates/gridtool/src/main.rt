@@ -1,10 +1,12 @@
 //! The program: its words go to the top call, with the files of the system and its two streams.
 #![tactic(auto)]
 
-use file_tools::{Status, no_memory, plain_tool};
+use file_tools::{Status, no_memory};
+use rank_runner::OpenGate;
 use std::process::ExitCode;
 use std::{env, io};
 use store_io::{DirStore, StdSink};
+use tool_threads::gridtool;
 
 // The status of arguments that weren't read: without memory as the tool tells it, else some argument isn't UTF-8, and
 // nothing is said.
@@ -29,7 +31,9 @@ fn main(rt: HostRuntime) -> ExitCode {
         let _program = words.remove(0);
     }
     let mut out = StdSink::new(rt.stdout());
-    let mut store = DirStore::new(rt);
-    let status = plain_tool(alloc, &words, &mut store, &mut out, &mut err);
+    let mut store = DirStore::new(&rt);
+    let status = gridtool(
+        &rt, alloc, &words, &mut store, &mut out, &mut err, &OpenGate,
+    );
     ExitCode::from(status.code())
 }

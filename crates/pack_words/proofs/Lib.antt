@@ -15,6 +15,7 @@ pub mod PartLaws
 pub mod Places
 pub mod Replacing
 pub mod Rooms
+pub mod RunSpots
 pub mod Runs
 pub mod Shaped
 pub mod Shown

@@ -15,7 +15,7 @@ use Rattle.pack_words.specs.Products.{crossing, down, product, has_corner, is_to
 use Rattle.pack_words.proofs.Columns.{column_length}
 use Rattle.pack_words.proofs.Crossing.{spots_join}
 
-all_rows : (cut : Cut) (r : Region) (v : ℕ) → cut.shape ≡ Ge → AreSelectedRows cut r v 0 r.rows
+pub all_rows : (cut : Cut) (r : Region) (v : ℕ) → cut.shape ≡ Ge → AreSelectedRows cut r v 0 r.rows
 all_rows cut r v e = record {
   ordered = omega arith;
   within = omega arith;
@@ -61,7 +61,7 @@ whole_all cut rows (c ∷ cs) e =
     let both = length-append (spots cut (down rows c)) (spots cut (product rows cs)) in
     omega arith
 
-all_touched : (by : Cut) (rs : List Region) → by.shape ≡ Ge → filter (is_touched by) rs ≡ rs
+pub all_touched : (by : Cut) (rs : List Region) → by.shape ≡ Ge → filter (is_touched by) rs ≡ rs
 all_touched by [] e = refl
 all_touched by (r ∷ rs) e =
     ap (λ b. cond b (r ∷ filter (is_touched by) rs) (filter (is_touched by) rs)) (ap (λ s. has_corner s by.m by.n r) e)

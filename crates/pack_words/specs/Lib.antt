@@ -12,6 +12,7 @@ pub mod Parts
 pub mod Products
 pub mod RankLaws
 pub mod RankOps
+pub mod RowRuns
 pub mod Selected
 pub mod Walks
 pub mod WholeRegions

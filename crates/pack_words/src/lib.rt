@@ -25,6 +25,7 @@ mod rank_mem;
 mod rank_op;
 mod region;
 mod regions;
+mod row_runs;
 mod shape;
 mod shapes;
 mod span;

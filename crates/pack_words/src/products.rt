@@ -8,6 +8,7 @@ ghost use Rattle.pack_words.specs.Products.{touched_down, product, touched_produ
 use crate::cut::Cut;
 use crate::local_array::LocalArray;
 use crate::region::Region;
+use crate::row_runs::{pack_whole_down, unpack_whole_down};
 use crate::shape::Shape;
 use crate::span::{Span, crossing_of};
 use crate::touched::{count_touched, pack_touched, unpack_touched};
@@ -73,8 +74,8 @@ pub fn count_product(rows: &[Span], cols: &[Span], by: &Cut, cut: &Cut) -> u32
     count_rectangles(rows, cols, by, cut)
 }
 
-// The words of the row runs in one column run into `out` from `start` on. The words before stay. Gives where they end.
-fn pack_down(
+// As `pack_down`, rectangle by rectangle.
+fn pack_touched_down(
     array: &LocalArray,
     rows: &[Span],
     col: &Span,
@@ -99,6 +100,30 @@ fn pack_down(
     at
 }
 
+// The words of the row runs in one column run into `out` from `start` on. The words before stay. Gives where they end.
+fn pack_down(
+    array: &LocalArray,
+    rows: &[Span],
+    col: &Span,
+    by: &Cut,
+    cut: &Cut,
+    out: &mut [i32],
+    start: usize,
+) -> usize
+    requires cut { AllInCut cut.now (touched_down by.now rows.now col.now) }
+    requires limits { IsLocalCells array.now }
+    requires array { AllInArray array.now (touched_down by.now rows.now col.now) }
+    requires room { start + length (spots cut.now (touched_down by.now rows.now col.now)) ≤ length out.old }
+    ensures end { result ≡ start + length (spots cut.now (touched_down by.now rows.now col.now)) }
+    ensures words { take result out.new ≡ take start out.old ++
+        words_at array.now (spots cut.now (touched_down by.now rows.now col.now)) }
+{
+    if by.shape == Shape::Ge && cut.shape == Shape::Ge {
+        return pack_whole_down(array, rows, col, cut, out, start);
+    }
+    pack_touched_down(array, rows, col, by, cut, out, start)
+}
+
 /// The words of every row run by every column run into `out`, which has their number.
 pub fn pack_product(
     array: &LocalArray,
@@ -120,8 +145,8 @@ pub fn pack_product(
     }
 }
 
-// The words from `start` on into the row runs in one column run. Gives where they end.
-fn unpack_down(
+// As `unpack_down`, rectangle by rectangle.
+fn unpack_touched_down(
     array: &mut LocalArray,
     rows: &[Span],
     col: &Span,
@@ -145,6 +170,31 @@ fn unpack_down(
         at = unpack_touched(array, &region, by, cut, words, at);
     }
     at
+}
+
+// The words from `start` on into the row runs in one column run. Gives where they end.
+fn unpack_down(
+    array: &mut LocalArray,
+    rows: &[Span],
+    col: &Span,
+    by: &Cut,
+    cut: &Cut,
+    words: &[i32],
+    start: usize,
+) -> usize
+    requires cut { AllInCut cut.now (touched_down by.now rows.now col.now) }
+    requires limits { IsLocalCells array.old }
+    requires array { AllInArray array.old (touched_down by.now rows.now col.now) }
+    requires room { start + length (spots cut.now (touched_down by.now rows.now col.now)) ≤ length words.now }
+    ensures end { result ≡ start + length (spots cut.now (touched_down by.now rows.now col.now)) }
+    ensures array { let len = length (spots cut.now (touched_down by.now rows.now col.now)) in
+        array.new ≡ with_words array.old (spots cut.now (touched_down by.now rows.now col.now)) (take len (drop start words.now)) }
+    ensures limits { IsLocalCells array.new }
+{
+    if by.shape == Shape::Ge && cut.shape == Shape::Ge {
+        return unpack_whole_down(array, rows, col, cut, words, start);
+    }
+    unpack_touched_down(array, rows, col, by, cut, words, start)
 }
 
 /// Each word to its element of every row run by every column run. All other places stay.

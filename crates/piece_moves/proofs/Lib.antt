@@ -2,8 +2,11 @@ pub mod ListLaws
 pub mod TurnLaws
 pub mod CallLaws
 pub mod RunLaws
+pub mod ArrayFits
 pub mod MeetCounts
 pub mod WordBound
 pub mod PlannedLaws
 pub mod WordCounts
 pub mod MovedLaws
+pub mod PassLaws
+pub mod ShortLaws

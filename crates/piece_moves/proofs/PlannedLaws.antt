@@ -1,5 +1,5 @@
 -- What a planned move of pieces is, by what PIGEMR2D answers.
-use Rattle.std.proofs.Common.{◌≡◌, ℕ, ◌*◌, ◌^◌, ◌<◌, ◌≤◌, List, [], ◌∷◌, ◌++◌, length, Option, Some, None, sym, ap, subst, ◌∙◌, arith}
+use Rattle.std.proofs.Common.{◌≡◌, ℕ, ◌*◌, ◌^◌, ◌<◌, ◌≤◌, List, [], ◌∷◌, ◌++◌, length, Option, Some, None, refl, sym, ap, subst, ◌∙◌, arith}
 use Rattle.std.specs.Prelude.{slice_get, IfSome, map}
 use Rattle.std.specs.List.{range_with_len}
 use Rattle.std.proofs.Math.Nat.{le-mul_of_pos_right, one-le-mul}
@@ -33,7 +33,7 @@ use Rattle.piece_moves.specs.declared.distribution.Distribution.{Distribution as
 use Rattle.piece_moves.specs.PieceMove.{first_of, ranks_for, args_for, move_for, move_words, array_of, zeros_for}
 use Rattle.move_numbers.specs.MoveNumbers.{move_messages, move_copies, AreTouching}
 use Rattle.move_numbers.specs.MoveNumbers.{move_words as words_between}
-use Rattle.piece_moves.specs.Numbers.{IsNumbered}
+use Rattle.piece_moves.specs.Numbers.{meets_of_whole, numbers_for}
 use Rattle.piece_moves.specs.Planning.{IsPrepared, IsDistribution, contexts_of}
 use Rattle.piece_moves.proofs.CallLaws.{same_some}
 use Rattle.piece_moves.proofs.MeetCounts.{meets_counted}
@@ -48,6 +48,9 @@ nodes_are ps d args contexts v nodes is = sym (length-map nodes arrays_held) ∙
 pub head_is : (ps : List Piece) → AreTurns ps → IsHead (first_of ps)
 head_is [] is = absurd is.all
 head_is (first ∷ more) is = is.turns.0
+
+numbers_are : (a b c x y z : ℕ) → a ≡ x → b ≡ y → c ≡ z → (let m : Moved = record { meets = a; messages = b; copies = c } in m) ≡ record { meets = x; messages = y; copies = z }
+numbers_are a b c x y z e f g = rw (e, f, g) refl
 
 module _ (ps : List Piece) (d : Distribution) (args : MrArgs) (contexts : List Grid) (v : ShapesView) (nodes : List RankState) (is : IsPrepared ps d args contexts v nodes) (before after : PlanView RankOp) (moved : Moved) (done : IsMoved contexts v Ge args before after moved) where
   pub appended : IsAppended v (move_for ps d) before after moved
@@ -81,7 +84,7 @@ module _ (ps : List Piece) (d : Distribution) (args : MrArgs) (contexts : List G
       let few = is.few in
       omega (arith, grows, sent, bound, empty, few)
 
-  pub numbered : before.ranks ≡ ranks_for (first_of ps) d → IsNumbered (move_for ps d) (ranks_for (first_of ps) d) moved
+  pub numbered : before.ranks ≡ ranks_for (first_of ps) d → moved ≡ numbers_for ps d
   numbered ranks =
       let mv : Move = move_for ps d in
       let h : Head = first_of ps in
@@ -93,11 +96,10 @@ module _ (ps : List Piece) (d : Distribution) (args : MrArgs) (contexts : List G
       let cb : IsAxis mv.cut.n (columns_of (side_of mv.b) mv.jb) = record { block = is.to.column_block; block_fits = is.to.column_block_fits; processes = is.to.few_columns; source = is.to.columns; within = (let f = head.columns_fit in omega (arith, f)) } in
       let rs = all_runs mv.cut.m (rows_of (side_of mv.a) mv.ia) (rows_of (side_of mv.b) mv.ib) ra rb in
       let cs = all_runs mv.cut.n (columns_of (side_of mv.a) mv.ja) (columns_of (side_of mv.b) mv.jb) ca cb in
-      record {
-        meets = appended.number rs.0 cs.0 rs.1 cs.1 ∙ meets_counted mv.cut.m mv.cut.n _ _ _ _ rs.0 cs.0 ra rb ca cb rs.1 cs.1;
-        messages = appended.messages ∙ messages_are mv before.ranks appended.meets touching ∙ ap (move_messages mv) ranks;
-        copies = appended.copies ∙ copies_are mv before.ranks appended.meets touching ∙ ap (move_copies mv) ranks;
-      }
+      numbers_are moved.meets moved.messages moved.copies (meets_of_whole mv) (move_messages mv (ranks_for h d)) (move_copies mv (ranks_for h d))
+      (appended.number rs.0 cs.0 rs.1 cs.1 ∙ meets_counted mv.cut.m mv.cut.n _ _ _ _ rs.0 cs.0 ra rb ca cb rs.1 cs.1)
+      (appended.messages ∙ messages_are mv before.ranks appended.meets touching ∙ ap (move_messages mv) ranks)
+      (appended.copies ∙ copies_are mv before.ranks appended.meets touching ∙ ap (move_copies mv) ranks)
 
 -- ---- before the plan
 

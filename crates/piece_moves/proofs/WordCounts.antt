@@ -5,7 +5,7 @@ use Rattle.std.proofs.Math.Nat.{mul-le-mul}
 use Rattle.std.proofs.lemmas.List.{map-append}
 use Rattle.std.proofs.lemmas.List.Sums.{sum_by_push}
 use Rattle.piece_grammar.specs.Head as grammar
-use Rattle.piece_grammar.specs.Head.{Head, array_words}
+use Rattle.piece_grammar.specs.Head.{array_words}
 use Rattle.piece_grammar.specs.Pieces.{words_of}
 use Rattle.piece_file.specs.PieceView.{piece_view}
 use Rattle.piece_file.specs.declared.piece.Piece.{Piece}
@@ -13,16 +13,16 @@ use Rattle.piece_moves.specs.Distribution.{Distribution, head_over}
 use Rattle.piece_moves.specs.PieceMove.{words_over}
 use Rattle.piece_moves.proofs.ListLaws.{map_more}
 
-pub no_words : (h : Head) (d : Distribution) → words_over h d 0 ≡ 0
+pub no_words : (rows columns : ℕ) (d : Distribution) → words_over rows columns d 0 ≡ 0
 unfolding words_over
-no_words h d = refl
+no_words rows columns d = refl
 
-next_words : (h : Head) (d : Distribution) (k : ℕ) → words_over h d (suc k) ≡ words_over h d k + array_words (head_over d h.m h.n k)
+pub next_words : (rows columns : ℕ) (d : Distribution) (k : ℕ) → words_over rows columns d (suc k) ≡ words_over rows columns d k + array_words (head_over d rows columns k)
 unfolding words_over
-next_words h d k = refl
+next_words rows columns d k = refl
 
-pub more_words : (h : Head) (d : Distribution) (k : ℕ) → words_over h d (k + 1) ≡ words_over h d k + array_words (head_over d h.m h.n k)
-more_words h d k = let one : k + 1 ≡ suc k = omega arith in ap (words_over h d) one ∙ next_words h d k
+pub more_words : (rows columns : ℕ) (d : Distribution) (k : ℕ) → words_over rows columns d (k + 1) ≡ words_over rows columns d k + array_words (head_over d rows columns k)
+more_words rows columns d k = let one : k + 1 ≡ suc k = omega arith in ap (words_over rows columns d) one ∙ next_words rows columns d k
 
 words_with : (ps : List grammar.Piece) (p : grammar.Piece) → words_of (ps ++ p ∷ []) ≡ words_of ps + array_words p.head
 words_with ps p =

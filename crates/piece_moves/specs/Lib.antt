@@ -9,3 +9,4 @@ pub mod PieceMove
 pub mod Sizes
 pub mod Planning
 pub mod Numbers
+pub mod MoveRuns

@@ -94,10 +94,11 @@ state_after ps d = plain_move (move_for ps d) (state_before ps d)
 abbrev pub array_after : List Piece → Distribution → ℕ → LocalCells
 array_after ps d k = cells_of (state_after ps d).arrays k 1
 
--- the words of a job: those of the local arrays of both grids, and all that moves
-unfoldable pub words_over : Head → Distribution → ℕ → ℕ
-words_over h d zero = 0
-words_over h d (suc k) = words_over h d k + array_words (head_over d h.m h.n k)
+-- the words of the first local arrays of a matrix of so many rows and columns
+unfoldable pub words_over : (rows columns : ℕ) → Distribution → ℕ → ℕ
+words_over rows columns d zero = 0
+words_over rows columns d (suc k) = words_over rows columns d k + array_words (head_over d rows columns k)
 
+-- the words of a job: those of the local arrays of both grids, and all that moves
 abbrev pub move_words : List Piece → Distribution → ℕ
-move_words ps d = words_of ps + words_over (first_of ps) d (d.nprow * d.npcol) + (first_of ps).m * (first_of ps).n
+move_words ps d = words_of ps + words_over (first_of ps).m (first_of ps).n d (d.nprow * d.npcol) + (first_of ps).m * (first_of ps).n

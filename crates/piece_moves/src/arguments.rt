@@ -30,8 +30,8 @@ fn desc_for(context: u32, head: &Head) -> Desc
     }
 }
 
-// The head of the first piece.
-pub(crate) fn first_head(pieces: &[Piece]) -> Head
+/// The head of the first piece, which tells the grid, the matrix and the blocks of all.
+pub fn first_head(pieces: &[Piece]) -> Head
     requires { AreTurns (map piece_view pieces.now) }
     ensures view { head_view result ≡ by.first_of (map piece_view pieces.now) }
     ensures head { IsHead (head_view result) }

@@ -1,5 +1,6 @@
 //! The memories of the ranks before a move.
-ghost use Rattle.std.specs.Prelude.{◌≡◌, ◌≤◌, ◌∷◌, [], length, map, slice_index_or, IfOk};
+ghost use Rattle.std.specs.Prelude.{◌≡◌, ◌≤◌, ◌*◌, ◌^◌, ◌∷◌, [], None, length, map, slice_index_or, IfOk};
+ghost use Rattle.pack_words.specs.ArrayRefusal.{array_refusal};
 ghost use Rattle.std.specs.List.{range_with_len};
 ghost use Rattle.pack_words.specs.LocalCells.{zeros};
 ghost use Rattle.pack_words.specs.GridState.{arrays_held};
@@ -7,21 +8,23 @@ ghost use Rattle.piece_grammar.specs.Head.{IsHead};
 ghost use Rattle.piece_file.specs.HeadView.{head_view};
 ghost use Rattle.piece_file.specs.PieceView.{piece_view};
 ghost use Rattle.piece_moves.specs.DistributionView.{distribution_view};
-ghost use Rattle.piece_moves.specs.PieceMove.{array_of, zeros_for};
+ghost use Rattle.piece_moves.specs.PieceMove.{array_of, words_over, zeros_for};
 
 use crate::distribution::Distribution;
 use index_tools::numroc;
-use pack_words::{LocalArray, RankMem};
+use pack_words::{ArrayErr, LocalArray, RankMem};
 use piece_file::{Head, Piece};
 use std::alloc::{AllocError, Global};
 
-// An array of zeros. Whatever keeps it from being made is told as out of memory.
+// An array of zeros.
 fn zeros_of(alloc: Global, lld: u32, cols: u32) -> Result<LocalArray, AllocError>
+    requires { array_refusal lld cols ≡ None }
     ensures { IfOk result (λ a. a ≡ zeros lld cols) }
 {
     match LocalArray::new(alloc, lld, cols) {
         Ok(array) => Ok(array),
-        Err(_) => Err(AllocError),
+        Err(ArrayErr::NoMemory) => Err(AllocError),
+        Err(_) => unreachable!(),
     }
 }
 
@@ -59,15 +62,16 @@ fn zeros_at(
     alloc: Global,
     first: &Head,
     to: &Distribution,
-    r: u32,
+    r: usize,
 ) -> Result<LocalArray, AllocError>
     requires head { IsHead (head_view first.now) }
+    requires few { words_over first.now.m first.now.n (distribution_view to.now) (to.now.nprow * to.now.npcol) ≤ 2 ^ 26 }
     ensures { IfOk result (λ a. a ≡ zeros_for (head_view first.now) (distribution_view to.now) r) }
 {
-    if r >= to.nprow * to.npcol {
+    if r >= (to.nprow * to.npcol) as usize {
         return zeros_of(alloc, 1, 0);
     }
-    let head = to.head(first.m, first.n, r);
+    let head = to.head(first.m, first.n, r as u32);
     let columns = numroc(first.n, to.nb, head.pcol, 0, to.npcol).max(1);
     zeros_of(alloc, head.lld, columns)
 }
@@ -90,16 +94,14 @@ fn nodes_of(
     to: &Distribution,
 ) -> Result<Vec<RankMem>, AllocError>
     requires head { IsHead (head_view first.now) }
+    requires few { words_over first.now.m first.now.n (distribution_view to.now) (to.now.nprow * to.now.npcol) ≤ 2 ^ 26 }
     ensures { IfOk result (λ v. map arrays_held v.items ≡ map (λ r. slice_index_or sources.items r (zeros 1 0) ∷
         zeros_for (head_view first.now) (distribution_view to.now) r ∷ []) (range_with_len 0 (length sources.items))) }
 {
     let mut nodes = Vec::with_capacity(alloc, sources.len())?;
     for source in sources {
         let r = nodes.len();
-        if r > 63 {
-            return Err(AllocError);
-        }
-        let target = zeros_at(alloc, first, to, r as u32)?;
+        let target = zeros_at(alloc, first, to, r)?;
         nodes.push(memory(alloc, source, target)?)?;
     }
     Ok(nodes)
@@ -114,7 +116,8 @@ pub(crate) fn memories(
     ranks: u32,
 ) -> Result<Vec<RankMem>, AllocError>
     requires head { IsHead (head_view first.now) }
-    requires few { length pieces.items ≤ ranks }
+    requires pieces { length pieces.items ≤ ranks }
+    requires few { words_over first.now.m first.now.n (distribution_view to.now) (to.now.nprow * to.now.npcol) ≤ 2 ^ 26 }
     ensures { IfOk result (λ v. map arrays_held v.items ≡ map (λ r. slice_index_or
         (map array_of (map piece_view pieces.items)) r (zeros 1 0) ∷
         zeros_for (head_view first.now) (distribution_view to.now) r ∷ []) (range_with_len 0 ranks)) }

@@ -1,8 +1,7 @@
 //! The words of a move.
 ghost use Rattle.std.specs.Prelude.{◌≡◌, ◌<◌, ◌≤◌, ◌*◌, ◌^◌, length, map};
-ghost use Rattle.piece_grammar.specs.Head.{IsHead, array_words as words_of_head};
+ghost use Rattle.piece_grammar.specs.Head.{array_words as words_of_head};
 ghost use Rattle.piece_grammar.specs.Pieces.{words_of};
-ghost use Rattle.piece_file.specs.HeadView.{head_view};
 ghost use Rattle.piece_file.specs.PieceView.{piece_view};
 ghost use Rattle.piece_file.specs.Gathering.{AreTurns};
 ghost use Rattle.piece_moves.specs.Distribution.{head_over};
@@ -12,7 +11,7 @@ ghost use Rattle.piece_moves.specs.PieceMove as by;
 use crate::arguments::first_head;
 use crate::distribution::Distribution;
 use index_tools::numroc;
-use piece_file::{Head, Piece};
+use piece_file::Piece;
 
 // The words of a piece's local array.
 fn array_words(piece: &Piece) -> u64
@@ -36,29 +35,30 @@ pub fn pieces_words(pieces: &[Piece]) -> u64
     words
 }
 
-// The words of piece `k` after the move.
-fn words_at(first: &Head, to: &Distribution, k: u32) -> u64
-    requires head { IsHead (head_view first.now) }
+// The words of piece `k` of a matrix of so many rows and columns.
+fn words_at(rows: u32, columns: u32, to: &Distribution, k: u32) -> u64
+    requires rows_fit { rows ≤ 2 ^ 24 }
+    requires columns_fit { columns ≤ 2 ^ 24 }
     requires piece { k < to.now.nprow * to.now.npcol }
-    ensures words { result ≡ words_of_head (head_over (distribution_view to.now) first.now.m first.now.n k) }
+    ensures words { result ≡ words_of_head (head_over (distribution_view to.now) rows columns k) }
     ensures bound { result ≤ 2 ^ 48 }
 {
-    let lld = numroc(first.m, to.mb, k / to.npcol, 0, to.nprow).max(1);
-    let width = numroc(first.n, to.nb, k % to.npcol, 0, to.npcol).max(1);
+    let lld = numroc(rows, to.mb, k / to.npcol, 0, to.nprow).max(1);
+    let width = numroc(columns, to.nb, k % to.npcol, 0, to.npcol).max(1);
     u64::from(lld) * u64::from(width)
 }
 
-/// The words of all local arrays after the move.
+/// The words of all local arrays of a matrix of so many rows and columns.
 #[tactic(auto, using(crate::proofs::WordCounts::no_words, crate::proofs::WordCounts::more_words))]
-pub fn words_over(first: &Head, to: &Distribution) -> u64
-    requires head { IsHead (head_view first.now) }
-    ensures words { result ≡ by.words_over (head_view first.now) (distribution_view to.now)
-        (to.now.nprow * to.now.npcol) }
+pub fn words_over(rows: u32, columns: u32, to: &Distribution) -> u64
+    requires rows_fit { rows ≤ 2 ^ 24 }
+    requires columns_fit { columns ≤ 2 ^ 24 }
+    ensures words { result ≡ by.words_over rows columns (distribution_view to.now) (to.now.nprow * to.now.npcol) }
     ensures bound { result ≤ 64 * 2 ^ 48 }
 {
     let mut words = 0u64;
     for k in 0..to.nprow * to.npcol {
-        words += words_at(first, to, k);
+        words += words_at(rows, columns, to, k);
     }
     words
 }
@@ -69,5 +69,7 @@ pub fn words_of_move(pieces: &[Piece], to: &Distribution) -> u64
     ensures { result ≡ by.move_words (map piece_view pieces.now) (distribution_view to.now) }
 {
     let first = first_head(pieces);
-    pieces_words(pieces) + words_over(&first, to) + u64::from(first.m) * u64::from(first.n)
+    pieces_words(pieces)
+        + words_over(first.m, first.n, to)
+        + u64::from(first.m) * u64::from(first.n)
 }

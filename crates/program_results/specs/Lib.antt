@@ -5,7 +5,9 @@ pub mod Placed
 pub mod Printing
 pub mod RowParts
 pub mod Results
+pub mod HomesView
 pub mod PlaceView
+pub mod Asked
 pub mod CellsView
 pub mod Pouring
 pub mod EndsView

@@ -1,6 +1,7 @@
 //! What the lines of a program ask to be written.
-ghost use Rattle.std.specs.Prelude.{◌≡◌, ◌+◌, ◌*◌, ◌≤◌, ◌++◌, ◌∷◌, [], Some, length, map, slice_get, IfOk, OnOk, IfSome, IfNone};
-ghost use Rattle.std.specs.List.{range_with_len};
+ghost use Rattle.std.specs.Prelude.{◌≡◌, ◌+◌, ◌*◌, ◌≤◌, ◌++◌, ◌∷◌, [], Some, length, map, slice_get, is_some, IfOk, OnOk, IfSome, IfNone};
+ghost use Rattle.std.specs.List.{find, range_with_len};
+ghost use Rattle.program_results.specs.Asked.{whole_in, whole_at};
 ghost use Rattle.program_results.specs.Placed.{placed_at, nowhere};
 ghost use Rattle.program_results.specs.Results.{array_named, array_names};
 ghost use Rattle.program_results.specs.EndsView.{piece_file_of, line_files, program_files, line_prints, program_prints};
@@ -175,4 +176,27 @@ pub(crate) fn prints_of(alloc: Global, lines: &[Numbered]) -> Result<Vec<Print>,
         add_print(&mut prints, &numbered.line)?;
     }
     Ok(prints)
+}
+
+// Whether a line saves or prints the whole matrix of an array.
+fn is_whole(line: &Line, array: usize) -> bool
+    ensures { result ≡ whole_in array line.now }
+{
+    match line {
+        Line::Save { array: whole, .. } => *whole as usize == array,
+        Line::PrintArray { array: whole } => *whole as usize == array,
+        _ => false,
+    }
+}
+
+/// Whether a line saves or prints the whole matrix of an array.
+pub(crate) fn asks_for_whole(lines: &[Numbered], array: usize) -> bool
+    ensures { result ≡ is_some (find (whole_at array) lines.now) }
+{
+    for k in 0..lines.len() {
+        if is_whole(&lines[k].line, array) {
+            return true;
+        }
+    }
+    false
 }

@@ -54,7 +54,7 @@ impl Ends {
         ensures { IfOk result (λ e. e ≡ ends_of contexts.now spreads.now lines.now) }
     {
         let names = names_of(alloc, lines)?;
-        let places = places_of(alloc, contexts, spreads)?;
+        let places = places_of(alloc, contexts, spreads, lines)?;
         let files = files_of(alloc, lines, &places)?;
         let prints = prints_of(alloc, lines)?;
         Ok(Ends {

@@ -6,6 +6,7 @@ mod cells;
 mod ends;
 mod file;
 mod finished;
+mod homes;
 mod laws;
 mod pen;
 mod place;

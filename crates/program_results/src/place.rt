@@ -7,18 +7,19 @@ ghost use Rattle.spread_cells.specs.IndexHomes.{index_home};
 ghost use Rattle.program_results.specs.Placed.{head_of};
 ghost use Rattle.program_results.specs.Standing.{rank_at};
 
+use crate::homes::Homes;
 use piece_file::Head;
-use spread_cells::{IndexHome, Layout, homes_of};
+use spread_cells::{IndexHome, Layout};
 use std::alloc::{AllocError, Global};
 use std::marker::Model;
 
-/// How a matrix is spread over a grid, the ranks of the grid row by row, and where each row and each column lies.
+/// How a matrix is spread over a grid, the ranks of the grid row by row, and where its rows and columns lie.
 #[derive(Drop)]
 pub(crate) struct Place {
     layout: Layout,
     ranks: Vec<u32>,
-    rows: Vec<IndexHome>,
-    columns: Vec<IndexHome>,
+    rows: Homes,
+    columns: Homes,
 }
 
 impl Model for Place {
@@ -33,15 +34,34 @@ impl Model for Place {
     ghost invariant = { IsPlace };
 }
 
+// Of how many rows and columns there are tables: of all where words are looked up, and where there are any.
+fn table_sizes(layout: &Layout, whole: bool) -> (u32, u32)
+    ensures rows { result.0 ≤ layout.now.rows }
+    ensures columns { result.1 ≤ layout.now.columns }
+{
+    if whole && layout.rows > 0 && layout.columns > 0 {
+        (layout.rows, layout.columns)
+    } else {
+        (0, 0)
+    }
+}
+
 impl Place {
-    /// The place of a matrix that is spread so over these ranks. Its memory is two numbers for each row and each column.
-    pub(crate) fn new(alloc: Global, layout: Layout, ranks: &[u32]) -> Result<Place, AllocError>
+    /// The place of a matrix that is spread so over these ranks. Where words of the whole matrix will be looked up, its memory
+    /// is two numbers for each row and each column; a matrix without elements has none.
+    pub(crate) fn new(
+        alloc: Global,
+        layout: Layout,
+        ranks: &[u32],
+        whole: bool,
+    ) -> Result<Place, AllocError>
         requires { length ranks.now ≡ layout.nprow * layout.npcol }
         ensures { IfOk result (λ p. p ≡ record { layout = layout_view layout; ranks = ranks.now }) }
     {
         let ranks = Vec::from_slice(alloc, ranks)?;
-        let rows = homes_of(alloc, layout.rows, layout.mb, layout.rsrc, layout.nprow)?;
-        let columns = homes_of(alloc, layout.columns, layout.nb, layout.csrc, layout.npcol)?;
+        let (m, n) = table_sizes(&layout, whole);
+        let rows = Homes::new(alloc, m, layout.mb, layout.rsrc, layout.nprow)?;
+        let columns = Homes::new(alloc, n, layout.nb, layout.csrc, layout.npcol)?;
         Ok(Place {
             layout,
             ranks,
@@ -103,7 +123,7 @@ impl Place {
         ensures process { result.process < self.now.layout.nprow }
         ensures local { result.local < local_rows self.now.layout result.process }
     {
-        self.rows[i as usize]
+        self.rows.home(i)
     }
 
     /// Where column `j` lies.
@@ -114,7 +134,7 @@ impl Place {
         ensures process { result.process < self.now.layout.npcol }
         ensures local { result.local < local_columns self.now.layout result.process }
     {
-        self.columns[j as usize]
+        self.columns.home(j)
     }
 
     /// What the piece of process `k` says of its place, where its local array has this leading dimension.

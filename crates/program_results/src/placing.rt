@@ -6,8 +6,10 @@ ghost use Rattle.spread_cells.specs.LayoutView.{layout_view};
 ghost use Rattle.program_results.specs.Placed.{placed_of};
 ghost use Rattle.program_results.specs.Standing.{IsGoodOn, AreGood};
 
+use crate::asking::asks_for_whole;
 use crate::place::Place;
 use descriptor::Spread;
+use grid_lang::Numbered;
 use proc_grid::{Context, Contexts};
 use spread_cells::Layout;
 use std::alloc::{AllocError, Global};
@@ -44,12 +46,17 @@ fn layout_of(spread: &Spread, grid: &Context) -> Layout
 
 // The place of an ARRAY.
 #[tactic(auto, using(crate::proofs::AskingLaws::place_made))]
-fn place_of(alloc: Global, contexts: &Contexts, spread: &Spread) -> Result<Place, AllocError>
+fn place_of(
+    alloc: Global,
+    contexts: &Contexts,
+    spread: &Spread,
+    whole: bool,
+) -> Result<Place, AllocError>
     requires { IsGoodOn contexts.now spread.now }
     ensures { IfOk result (λ p. Some p ≡ placed_of contexts.now (Some spread.now)) }
 {
     match contexts.get(spread.desc.ctxt) {
-        Some(grid) => Place::new(alloc, layout_of(spread, grid), grid.ranks()),
+        Some(grid) => Place::new(alloc, layout_of(spread, grid), grid.ranks(), whole),
         None => unreachable!(),
     }
 }
@@ -59,29 +66,33 @@ fn place_if_any(
     alloc: Global,
     contexts: &Contexts,
     spread: &Option<Spread>,
+    whole: bool,
 ) -> Result<Option<Place>, AllocError>
     requires { IfSome spread.now (λ s. IsGoodOn contexts.now s) }
     ensures { IfOk result (λ p. p ≡ placed_of contexts.now spread.now) }
 {
     match spread {
-        Some(spread) => Ok(Some(place_of(alloc, contexts, spread)?)),
+        Some(spread) => Ok(Some(place_of(alloc, contexts, spread, whole)?)),
         None => Ok(None),
     }
 }
 
-/// The places of all arrays, by their numbers.
+/// The places of all arrays, by their numbers. Where each row and column lies is kept of those that these lines save whole or
+/// print.
 #[tactic(auto, using(crate::proofs::AskingLaws::places_more, crate::proofs::AskingLaws::places_all, crate::proofs::AskingLaws::good_next))]
 pub(crate) fn places_of(
     alloc: Global,
     contexts: &Contexts,
     spreads: &[Option<Spread>],
+    lines: &[Numbered],
 ) -> Result<Vec<Option<Place>>, AllocError>
     requires { AreGood contexts.now spreads.now }
     ensures { IfOk result (λ v. v.items ≡ map (placed_of contexts.now) spreads.now) }
 {
     let mut places = Vec::with_capacity(alloc, spreads.len())?;
     for spread in spreads {
-        places.push(place_if_any(alloc, contexts, spread)?)?;
+        let whole = asks_for_whole(lines, places.len());
+        places.push(place_if_any(alloc, contexts, spread, whole)?)?;
     }
     Ok(places)
 }

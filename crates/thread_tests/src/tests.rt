@@ -1,4 +1,6 @@
 //! What pairs and runs on threads give on small rows.
+ghost use Rattle.std.specs.Prelude.{◌≡◌, IfOk};
+
 use crate::gates::{LastGate, MeetingGate};
 use crate::pair::{Answers, four_steps};
 use crate::runs::{ready_of, zeros};
@@ -30,14 +32,29 @@ fn queue_of_one(rt: HostRuntime) -> Result<(), Fail> {
 }
 
 // Rank 0 sends its word to rank 1, which receives it, and then each does a local operation.
-fn send_then_add<R: Sync>(rt: &R, alloc: Global) -> Result<Option<Ready<Cell>>, Fail> {
+fn one_message_plan(alloc: Global) -> Result<Plan<CellOp>, Fail>
+    ensures { IfOk result (λ plan. plan.ranks ≡ 2) }
+{
     let mut plan: Plan<CellOp> = Plan::new(alloc, 2)?;
     give(&mut plan, 0, 1, 1)?;
     get(&mut plan, 0, 1, 1)?;
     add(&mut plan, 0, 1)?;
     add(&mut plan, 1, 10)?;
+    Ok(plan)
+}
+
+fn send_then_add<R: Sync>(rt: &R, alloc: Global) -> Result<Option<Ready<Cell>>, Fail> {
+    let plan = one_message_plan(alloc)?;
     let nodes = Vec::from_array(alloc, [Cell::new(7), Cell::new(0)])?;
     Ok(ready_of(rt, alloc, plan, nodes))
+}
+
+#[test]
+fn one_pair_has_a_message(rt: HostRuntime) -> Result<(), Fail> {
+    let plan = one_message_plan(rt.alloc())?;
+    assert_eq!(rt; plan.pair_counts()?.as_slice(), [(0, 1, 1)].as_slice());
+    assert_eq!(rt; plan.occupancies()?.as_slice(), [(0, 1, 1)].as_slice());
+    Ok(())
 }
 
 #[test]

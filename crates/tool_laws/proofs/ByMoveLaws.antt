@@ -14,11 +14,11 @@ use Rattle.piece_file.specs.Gathering.{AreTurns}
 use Rattle.tool_words.specs.Within.{IsTarget}
 use Rattle.move_laws.specs.Starts.{CanSplit, CanJoin}
 use Rattle.file_tools.specs.Target.{Target}
-use Rattle.file_tools.specs.SplitWalk.{layout_of, words_of, words_before, job_words}
+use Rattle.file_tools.specs.SplitWalk.{distribution_of, layout_of, words_of, words_before, job_words}
 use Rattle.piece_moves.specs.PieceMove.{array_of}
+use Rattle.piece_moves.proofs.ArrayFits.{one_fits}
 use Rattle.file_tools.specs.JoinWalk.{layout_by, join_words}
 use Rattle.tool_laws.specs.ByMoves.{local_of}
-use Rattle.file_tools.proofs.WordCounts.{next_words}
 use Rattle.file_tools.proofs.TurnLaws.{turns_hold, first_is_head}
 
 -- a grid of at most 64 processes
@@ -29,18 +29,6 @@ shape_fits r c hr hc few = record { some_rows = omega arith; few_rows = left r c
     left r zero h few = absurd (omega arith)
     left r (suc c) h few = let e : r * suc c ≡ r + r * c = omega arith in omega arith
 
--- one piece has no more words than all
-one_of_all : (t : Target) (rows columns n k : ℕ) → k < n → words_of t rows columns k ≤ words_before t rows columns n
-one_of_all t rows columns zero k lt = absurd (omega arith)
-one_of_all t rows columns (suc n) k lt = step (nat_cases k n lt) (one_of_all t rows columns n k)
-  where
-    nat_cases : (k n : ℕ) → k < suc n → (k < n) ⊎ (k ≡ n)
-    nat_cases k n lt = grind arith
-
-    step : (k < n) ⊎ (k ≡ n) → (k < n → words_of t rows columns k ≤ words_before t rows columns n) → words_of t rows columns k ≤ words_before t rows columns (suc n)
-    step (inl low) before = omega (arith, before low, next_words t rows columns n)
-    step (inr e) before = omega (arith, ap (words_of t rows columns) e, next_words t rows columns n)
-
 pub can_split : (t : Target) (m : Matrix) → IsTarget t.nprow t.npcol t.mb t.nb → length m.values ≡ m.rows * m.columns → job_words t m.rows m.columns ≤ 2 ^ 26 → CanSplit m (layout_of t m.rows m.columns)
 can_split t m is count small = record {
   layout = record { layout = record { row_block = is.row_block; column_block = is.column_block; row_source = is.rows; column_source = is.columns }; rows = refl; columns = refl; count = count };
@@ -48,7 +36,7 @@ can_split t m is count small = record {
   few = λ p q hp hq.
       let l : Layout = layout_of t m.rows m.columns in
       let below : p * t.npcol + q < t.nprow * t.npcol = omega (arith, mul-add-lt p t.npcol q t.nprow hp hq) in
-      let one : words_of t m.rows m.columns (p * t.npcol + q) ≤ words_before t m.rows m.columns (t.nprow * t.npcol) = one_of_all t m.rows m.columns (t.nprow * t.npcol) (p * t.npcol + q) below in
+      let one : words_of t m.rows m.columns (p * t.npcol + q) ≤ words_before t m.rows m.columns (t.nprow * t.npcol) = one_fits m.rows m.columns (distribution_of t) (p * t.npcol + q) (t.nprow * t.npcol) below in
       let here : words_of t m.rows m.columns (p * t.npcol + q) ≡ piece_rows l p * piece_columns l q = ap (λ k. piece_rows l k * piece_columns l ((p * t.npcol + q) % t.npcol)) (div-mul-add p t.npcol q hq) ∙ ap (λ k. piece_rows l p * piece_columns l k) (mod-mul-add p t.npcol q hq) in
       omega (arith, small, one, here);
 }

@@ -31,6 +31,7 @@ use Rattle.piece_moves.specs.Distribution.{Distribution, layout_over, head_over}
 use Rattle.piece_moves.specs.PieceMove as moving
 use Rattle.piece_moves.specs.PieceMove.{first_of, ranks_for, spread_from, spread_to, held_before, state_before, state_after, words_over, move_words}
 use Rattle.piece_moves.proofs.CallLaws.{dealt_at}
+use Rattle.piece_moves.proofs.ArrayFits.{one_fits}
 use Rattle.move_laws.specs.WholeMoves.{HoldsPieces, AwaitsPieces}
 use Rattle.move_laws.proofs.MoveLaws.{piece_room}
 use Rattle.move_laws.proofs.FileLaws.{zero_in}
@@ -94,21 +95,6 @@ holds_pieces first more d turns =
 
 -- ---- B awaits the others
 
-next_words : (h : Head) (d : Distribution) (k : ℕ) → words_over h d (suc k) ≡ words_over h d k + array_words (head_over d h.m h.n k)
-unfolding words_over
-next_words h d k = refl
-
-one_of_all : (h : Head) (d : Distribution) (n k : ℕ) → k < n → array_words (head_over d h.m h.n k) ≤ words_over h d n
-one_of_all h d zero k lt = absurd (omega arith)
-one_of_all h d (suc n) k lt = step (nat_cases k n lt) (one_of_all h d n k)
-  where
-    nat_cases : (k n : ℕ) → k < suc n → (k < n) ⊎ (k ≡ n)
-    nat_cases k n lt = grind arith
-
-    step : (k < n) ⊎ (k ≡ n) → (k < n → array_words (head_over d h.m h.n k) ≤ words_over h d n) → array_words (head_over d h.m h.n k) ≤ words_over h d (suc n)
-    step (inl low) before = omega (arith, before low, next_words h d n)
-    step (inr e) before = omega (arith, ap (λ k. array_words (head_over d h.m h.n k)) e, next_words h d n)
-
 zeros_are : (h : Head) (d : Distribution) (p q : ℕ) → p < d.nprow → q < d.npcol
     → moving.zeros_for h d (p * d.npcol + q) ≡ zeros (piece_rows (layout_over d h.m h.n) p) (piece_columns (layout_over d h.m h.n) q)
 zeros_are h d p q hp hq =
@@ -153,7 +139,7 @@ awaits ps d is small =
             let c : cells_of arrays (rank_of g p q) 1 ≡ zeros (piece_rows l p) (piece_columns l q) = ap (λ (cs : List LocalCells). slice_index_or cs 1 (zeros 1 0)) (mine p q hp hq) in
             let at : rank_of g p q ≡ p * d.npcol + q = dealt_at d.nprow d.npcol p q hp hq in
             let low : p * d.npcol + q < d.nprow * d.npcol = number_below d.nprow d.npcol p q hp hq in
-            let one : array_words (head_over d h.m h.n (p * d.npcol + q)) ≤ words_over h d (d.nprow * d.npcol) = one_of_all h d (d.nprow * d.npcol) (p * d.npcol + q) low in
+            let one : array_words (head_over d h.m h.n (p * d.npcol + q)) ≤ words_over h.m h.n d (d.nprow * d.npcol) = one_fits h.m h.n d (p * d.npcol + q) (d.nprow * d.npcol) low in
             let here : array_words (head_over d h.m h.n (p * d.npcol + q)) ≡ piece_rows l p * piece_columns l q = ap (λ n. piece_rows l n * piece_columns l ((p * d.npcol + q) % d.npcol)) (div-mul-add p d.npcol q hq) ∙ ap (λ n. piece_rows l p * piece_columns l n) (mod-mul-add p d.npcol q hq) in
             let area = two_words (cells_of arrays (rank_of g p q) 1) (zeros (piece_rows l p) (piece_columns l q)) c in
             record {

@@ -66,7 +66,7 @@ fn a_matrix_without_rows(rt: HostRuntime) -> Result<(), Fail> {
 fn refusals(rt: HostRuntime) -> Result<(), Fail> {
     let alloc = rt.alloc();
     let usage =
-        "usage: gridtool split IN OUT P Q MB NB\n       gridtool join PREFIX OUT\n       gridtool move PREFIX OUT P Q MB NB [--threads | --seed S]\n       gridtool check PROGRAM\n       gridtool run PROGRAM [--threads | --seed S]\n";
+        "usage: gridtool split IN OUT P Q MB NB\n       gridtool join PREFIX OUT\n       gridtool move PREFIX OUT P Q MB NB [--threads | --seed S]\n       gridtool check PROGRAM\n       gridtool run PROGRAM [--threads | --seed S]\n       gridtool load SEED SIZE\n";
     let cases = [
         (
             "split b.mtx x 1 1 2 2",
@@ -85,7 +85,10 @@ fn refusals(rt: HostRuntime) -> Result<(), Fail> {
         ("split --help", 2, usage),
         ("move x y 1 1 1 1", 3, "gridtool: x.0.0: missing\n"),
         ("run x", 3, "gridtool: x: missing\n"),
-        ("load 1 2", 2, usage),
+        ("load 1 0", 2, usage),
+        ("load 1 2001", 2, usage),
+        ("load 18446744073709551616 1", 2, usage),
+        ("load 1 2 --threads", 2, usage),
         ("", 2, usage),
     ];
     for (line, code, text) in cases {

@@ -4,7 +4,7 @@ use std::alloc::{AllocError, Global};
 use std::process::Abort;
 use std::test::Fail;
 use store_io::{MemSink, MemStore};
-use tool_words::{Asked, Command, How, read_words};
+use tool_words::{Asked, How, read_words};
 
 // The words of a line, each separated from the next by one blank; an empty line has no words.
 fn words(alloc: Global, line: &str) -> Result<Vec<String>, AllocError> {
@@ -71,17 +71,9 @@ fn asked_text(alloc: Global, asked: &Asked) -> Result<String, AllocError> {
     }
 }
 
-// What the words ask for where all commands are built.
+// What the words ask for.
 fn text_of(alloc: Global, words: &[String]) -> Result<String, AllocError> {
-    let built = [
-        Command::Split,
-        Command::Join,
-        Command::Move,
-        Command::Check,
-        Command::Run,
-        Command::Load,
-    ];
-    match read_words(alloc, &built, words)? {
+    match read_words(alloc, words)? {
         Some(asked) => asked_text(alloc, &asked),
         None => String::from_str(alloc, "nothing"),
     }
@@ -278,16 +270,6 @@ fn long_names(rt: HostRuntime) -> Result<(), Fail> {
     Ok(())
 }
 
-#[test]
-fn only_commands_that_are_built(rt: HostRuntime) -> Result<(), Fail> {
-    let alloc = rt.alloc();
-    let words = words(alloc, "load 1 2")?;
-    assert!(rt; read_words(alloc, &[Command::Split, Command::Run], &words)?.is_none());
-    assert!(rt; read_words(alloc, &[Command::Run, Command::Load], &words)?.is_some());
-    assert!(rt; read_words(alloc, &[], &words)?.is_none());
-    Ok(())
-}
-
 const MATRIX: &[u8; 60] = b"%%MatrixMarket matrix array integer general\n3 2\n1\n2\n3\n4\n5\n6\n";
 
 const PIECE: &[u8; 88] =
@@ -325,7 +307,7 @@ fn no_help(rt: HostRuntime) -> Result<(), Fail> {
     assert_eq!(rt; status.code(), 2);
     assert_eq!(rt;
         err.bytes(),
-        b"usage: gridtool split IN OUT P Q MB NB\n       gridtool join PREFIX OUT\n       gridtool move PREFIX OUT P Q MB NB [--threads | --seed S]\n       gridtool check PROGRAM\n       gridtool run PROGRAM [--threads | --seed S]\n".as_slice()
+        b"usage: gridtool split IN OUT P Q MB NB\n       gridtool join PREFIX OUT\n       gridtool move PREFIX OUT P Q MB NB [--threads | --seed S]\n       gridtool check PROGRAM\n       gridtool run PROGRAM [--threads | --seed S]\n       gridtool load SEED SIZE\n".as_slice()
     );
     assert!(rt; out.bytes().is_empty());
     Ok(())

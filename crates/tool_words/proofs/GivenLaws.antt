@@ -3,7 +3,6 @@ use Rattle.std.proofs.Common.{◌≡◌, true, List, [], ◌∷◌, Some, refl, 
 use Rattle.std.specs.Prelude.{codes}
 use Rattle.tool_words.specs.Given.{Text, place, kind_of, only_places, with_place, with_word, sorted_from, sorted}
 use Rattle.tool_words.specs.CommandWords.{asked}
-use Rattle.tool_words.specs.declared.command.Command.{Command}
 
 -- each word is positional
 abbrev pub AllPlaces : List Text → Type 0
@@ -22,6 +21,6 @@ unfolding sorted_from kind_of
 sorted-dashes words = refl
 
 -- So `--` before words of which none is an option changes nothing.
-pub asked-dashes : (built : List Command) (first : Text) (words : List Text) → AllPlaces words → asked built (first ∷ codes "--" ∷ words) ≡ asked built (first ∷ words)
+pub asked-dashes : (first : Text) (words : List Text) → AllPlaces words → asked (first ∷ codes "--" ∷ words) ≡ asked (first ∷ words)
 unfolding asked
-asked-dashes built first words h = rw (sorted-dashes words, sorted-places words h) refl
+asked-dashes first words h = rw (sorted-dashes words, sorted-places words h) refl

@@ -19,7 +19,7 @@ use Rattle.clap.specs.Walk.{Row, nothing_held, answers_to, stop_after, finished,
 use Rattle.clap.specs.Simple.{App, built, label_of, rows_at, entered, subcommand_of}
 use Rattle.clap.specs.Kinds.{Kinds}
 use Rattle.clap.specs.Faults.{fault_of, built_fault, level_fault, is_simple_and_free, is_free_app}
-use Rattle.tool_words.specs.CommandNames.{name_of}
+use Rattle.tool_words.specs.CommandNames.{every_command, name_of}
 use Rattle.tool_words.specs.Line.{shape_named, bare_line, line_of, lent_texts}
 use Rattle.tool_words.specs.Given.{Text, Given, sorted}
 use Rattle.tool_words.specs.CommandWords.{command_named, asked, asked_of, asked_by, how_by}
@@ -50,24 +50,6 @@ sub_bare words = refl
 
 -- ---- where the line ends
 
-pub data LineEnds (cs : List Command) (words : List Text) : Type 0 where
-  astray : (fine (fault_of (line_of cs) words) ≡ false) ⊎ (subcommand_of (line_of cs) words ≡ None) → asked cs words ≡ None → LineEnds cs words
-  enters : (k : Command) (ws : List Text) → AllUtf8 ws → command_named cs (name_of k) ≡ Some k → asked cs words ≡ option_and_then (asked_of k) (sorted ws)
-      → fault_of (line_of cs) words ≡ level_fault (leaf_of k) [] nothing_held ws false []
-      → subcommand_of (line_of cs) words ≡ Some (rows_at (leaf_of k) ws) → LineEnds cs words
-
-asked_none : (cs : List Command) (x : Text) (ws : List Text) → command_named cs x ≡ None → asked cs (x ∷ ws) ≡ None
-unfolding asked
-asked_none cs x ws e = rw e refl
-
-asked_some : (cs : List Command) (k : Command) (x : Text) (ws : List Text) → command_named cs x ≡ Some k → asked cs (x ∷ ws) ≡ option_and_then (asked_of k) (sorted ws)
-unfolding asked
-asked_some cs k x ws e = rw e refl
-
-asked_empty : (cs : List Command) → asked cs [] ≡ None
-unfolding asked
-asked_empty cs = refl
-
 no_words : (cs : List Command) → subcommand_of (line_of cs) [] ≡ None
 no_words [] = sub_bare []
 no_words (c ∷ cs) = sub_line c cs []
@@ -86,19 +68,44 @@ lost_line (c ∷ cs) x ws e u = elim (lost false (map leaf_of (c ∷ cs)) x ws (
   | inr f ↦ inr (sub_line c cs (x ∷ ws) ∙ ap (entered (line_built (c ∷ cs))) f)
 ]
 
-line_named : (cs : List Command) (k : Command) (x : Text) (ws : List Text) → AllUtf8 ws → command_named cs x ≡ Some k → LineEnds cs (x ∷ ws)
-line_named [] k x ws u e = absurd cc
-line_named (c ∷ cs) k x ws u e =
-    let same : name_of k ≡ x = named_is (c ∷ cs) x k e in
-    enters k ws u (ap (command_named (c ∷ cs)) same ∙ e) (asked_some (c ∷ cs) k x ws e) (fault_line c cs (x ∷ ws) ∙ named_built (c ∷ cs) k x ws e) (sub_line c cs (x ∷ ws) ∙ named_rows (c ∷ cs) k x ws e)
+pub data LineEnds (words : List Text) : Type 0 where
+  astray : (fine (fault_of (line_of every_command) words) ≡ false) ⊎ (subcommand_of (line_of every_command) words ≡ None) → asked words ≡ None → LineEnds words
+  enters : (k : Command) (ws : List Text) → AllUtf8 ws → command_named every_command (name_of k) ≡ Some k → asked words ≡ option_and_then (asked_of k) (sorted ws)
+      → fault_of (line_of every_command) words ≡ level_fault (leaf_of k) [] nothing_held ws false []
+      → subcommand_of (line_of every_command) words ≡ Some (rows_at (leaf_of k) ws) → LineEnds words
 
-by_command : (cs : List Command) (x : Text) (ws : List Text) → IsUtf8 x → AllUtf8 ws → (o : Option Command) → command_named cs x ≡ o → LineEnds cs (x ∷ ws)
-by_command cs x ws v u None e = astray (lost_line cs x ws e v) (asked_none cs x ws e)
-by_command cs x ws v u (Some k) e = line_named cs k x ws u e
+asked_none : (x : Text) (ws : List Text) → command_named every_command x ≡ None → asked (x ∷ ws) ≡ None
+unfolding asked
+asked_none x ws e = rw e refl
 
-line_ends : (cs : List Command) (words : List Text) → AllUtf8 words → LineEnds cs words
-line_ends cs [] u = astray (inr (no_words cs)) (asked_empty cs)
-line_ends cs (x ∷ ws) u = by_command cs x ws u.0 u.1 _ refl
+asked_some : (k : Command) (x : Text) (ws : List Text) → command_named every_command x ≡ Some k → asked (x ∷ ws) ≡ option_and_then (asked_of k) (sorted ws)
+unfolding asked
+asked_some k x ws e = rw e refl
+
+asked_empty : asked [] ≡ None
+unfolding asked
+asked_empty = refl
+
+fault_named : (cs : List Command) (k : Command) (x : Text) (ws : List Text) → command_named cs x ≡ Some k → fault_of (line_of cs) (x ∷ ws) ≡ level_fault (leaf_of k) [] nothing_held ws false []
+fault_named [] k x ws e = absurd cc
+fault_named (c ∷ cs) k x ws e = fault_line c cs (x ∷ ws) ∙ named_built (c ∷ cs) k x ws e
+
+sub_named : (cs : List Command) (k : Command) (x : Text) (ws : List Text) → command_named cs x ≡ Some k → subcommand_of (line_of cs) (x ∷ ws) ≡ Some (rows_at (leaf_of k) ws)
+sub_named [] k x ws e = absurd cc
+sub_named (c ∷ cs) k x ws e = sub_line c cs (x ∷ ws) ∙ named_rows (c ∷ cs) k x ws e
+
+line_named : (k : Command) (x : Text) (ws : List Text) → AllUtf8 ws → command_named every_command x ≡ Some k → LineEnds (x ∷ ws)
+line_named k x ws u e =
+    let same : name_of k ≡ x = named_is every_command x k e in
+    enters k ws u (ap (command_named every_command) same ∙ e) (asked_some k x ws e) (fault_named every_command k x ws e) (sub_named every_command k x ws e)
+
+by_command : (x : Text) (ws : List Text) → IsUtf8 x → AllUtf8 ws → (o : Option Command) → command_named every_command x ≡ o → LineEnds (x ∷ ws)
+by_command x ws v u None e = astray (lost_line every_command x ws e v) (asked_none x ws e)
+by_command x ws v u (Some k) e = line_named k x ws u e
+
+line_ends : (words : List Text) → AllUtf8 words → LineEnds words
+line_ends [] u = astray (inr (no_words every_command)) asked_empty
+line_ends (x ∷ ws) u = by_command x ws u.0 u.1 _ refl
 
 -- ---- where the words behind the command end
 
@@ -119,35 +126,35 @@ fine_is (k ∷ ks) e = absurd cc
 
 -- ---- what `clap` refuses
 
-no_asks : (cs : List Command) (words : List Text) (k : Command) (ws : List Text) (o : Option Given) → merged nothing_given (cut_from false ws) ≡ o → Ends (name_of k) (at [] None idle false) ws o
-    → asked cs words ≡ option_and_then (asked_of k) (sorted ws) → fault_of (line_of cs) words ≡ level_fault (leaf_of k) [] nothing_held ws false [] → (fault_of (line_of cs) words ≡ [] → ⊥) → asked cs words ≡ None
-no_asks cs words k ws None e ends asks fault bad = asks ∙ sym (asks_same k ws) ∙ ap (option_and_then (asked_of k)) e
-no_asks cs words k ws (Some g) e ends asks fault bad = absurd (bad (fault ∙ leaf_total (name_of k) ws ∙ fine_is (total (name_of k) (at [] None idle false) ws) ends.0))
+no_asks : (words : List Text) (k : Command) (ws : List Text) (o : Option Given) → merged nothing_given (cut_from false ws) ≡ o → Ends (name_of k) (at [] None idle false) ws o
+    → asked words ≡ option_and_then (asked_of k) (sorted ws) → fault_of (line_of every_command) words ≡ level_fault (leaf_of k) [] nothing_held ws false [] → (fault_of (line_of every_command) words ≡ [] → ⊥) → asked words ≡ None
+no_asks words k ws None e ends asks fault bad = asks ∙ sym (asks_same k ws) ∙ ap (option_and_then (asked_of k)) e
+no_asks words k ws (Some g) e ends asks fault bad = absurd (bad (fault ∙ leaf_total (name_of k) ws ∙ fine_is (total (name_of k) (at [] None idle false) ws) ends.0))
 
-refused_by : (cs : List Command) (words : List Text) → LineEnds cs words → (fault_of (line_of cs) words ≡ [] → ⊥) → asked cs words ≡ None
-refused_by cs words (astray why none) bad = none
-refused_by cs words (enters k ws u named asks fault sub) bad = no_asks cs words k ws (merged nothing_given (cut_from false ws)) refl (leaf_ends (name_of k) ws u) asks fault bad
+refused_by : (words : List Text) → LineEnds words → (fault_of (line_of every_command) words ≡ [] → ⊥) → asked words ≡ None
+refused_by words (astray why none) bad = none
+refused_by words (enters k ws u named asks fault sub) bad = no_asks words k ws (merged nothing_given (cut_from false ws)) refl (leaf_ends (name_of k) ws u) asks fault bad
 
-pub refused : (cs : List Command) (words : List Text) → AllUtf8 words → (fault_of (line_of cs) words ≡ [] → ⊥) → asked cs words ≡ None
-refused cs words u bad = refused_by cs words (line_ends cs words u) bad
+pub refused : (words : List Text) → AllUtf8 words → (fault_of (line_of every_command) words ≡ [] → ⊥) → asked words ≡ None
+refused words u bad = refused_by words (line_ends words u) bad
 
 -- ---- what `clap` gives without a subcommand
 
-no_entry : (cs : List Command) (words : List Text) → LineEnds cs words → subcommand_of (line_of cs) words ≡ None → asked cs words ≡ None
-no_entry cs words (astray why none) e = none
-no_entry cs words (enters k ws u named asks fault sub) e = let both : Some (rows_at (leaf_of k) ws) ≡ None = sym sub ∙ e in absurd cc
+no_entry : (words : List Text) → LineEnds words → subcommand_of (line_of every_command) words ≡ None → asked words ≡ None
+no_entry words (astray why none) e = none
+no_entry words (enters k ws u named asks fault sub) e = let both : Some (rows_at (leaf_of k) ws) ≡ None = sym sub ∙ e in absurd cc
 
-pub no_subcommand : (cs : List Command) (words : List Text) → AllUtf8 words → subcommand_of (line_of cs) words ≡ None → asked cs words ≡ None
-no_subcommand cs words u e = no_entry cs words (line_ends cs words u) e
+pub no_subcommand : (words : List Text) → AllUtf8 words → subcommand_of (line_of every_command) words ≡ None → asked words ≡ None
+no_subcommand words u e = no_entry words (line_ends words u) e
 
 -- ---- what `clap` gives with one
 
-pub record Reads (cs : List Command) (words : List Text) (name : Text) (rows : List Row) : Type 0 where
+pub record Reads (words : List Text) (name : Text) (rows : List Row) : Type 0 where
   pub command : Command
-  pub named : command_named cs name ≡ Some command
+  pub named : command_named every_command name ≡ Some command
   pub flag : Bool
   pub flagged : one_of (codes "threads") rows ≡ Some (cond flag (codes "true") (codes "false"))
-  pub asks : asked cs words ≡ option_and_then (asked_by command (values_at (codes "words") rows)) (how_by (cond flag 1 0) (values_at (codes "seed") rows))
+  pub asks : asked words ≡ option_and_then (asked_by command (values_at (codes "words") rows)) (how_by (cond flag 1 0) (values_at (codes "seed") rows))
 
 abbrev is_flagged : ℕ → Bool
 is_flagged zero = false
@@ -173,17 +180,17 @@ merged_once (Some g) k h = tested_once _ (record { places = g.places; threads = 
 asks_given : (k : Command) (g : Given) (rows : List Row) → Finished rows g → g.threads ≤ 1 → asked_of k g ≡ option_and_then (asked_by k (values_at (codes "words") rows)) (how_by (cond (is_flagged g.threads) 1 0) (values_at (codes "seed") rows))
 asks_given k g rows f l = rw (f.places, f.seeds, once g.threads l) refl
 
-rows_read : (cs : List Command) (words : List Text) (name : Text) (rows : List Row) (k : Command) (ws : List Text) (o : Option Given) → merged nothing_given (cut_from false ws) ≡ o → Ends (name_of k) (at [] None idle false) ws o
-    → command_named cs (name_of k) ≡ Some k → asked cs words ≡ option_and_then (asked_of k) (sorted ws) → fault_of (line_of cs) words ≡ level_fault (leaf_of k) [] nothing_held ws false [] → fault_of (line_of cs) words ≡ []
-    → name_of k ≡ name → finished rules (ended (at [] None idle false) ws).held ≡ rows → Reads cs words name rows
-rows_read cs words name rows k ws None e ends named asks fault good same is =
+rows_read : (words : List Text) (name : Text) (rows : List Row) (k : Command) (ws : List Text) (o : Option Given) → merged nothing_given (cut_from false ws) ≡ o → Ends (name_of k) (at [] None idle false) ws o
+    → command_named every_command (name_of k) ≡ Some k → asked words ≡ option_and_then (asked_of k) (sorted ws) → fault_of (line_of every_command) words ≡ level_fault (leaf_of k) [] nothing_held ws false [] → fault_of (line_of every_command) words ≡ []
+    → name_of k ≡ name → finished rules (ended (at [] None idle false) ws).held ≡ rows → Reads words name rows
+rows_read words name rows k ws None e ends named asks fault good same is =
     let none : fine (total (name_of k) (at [] None idle false) ws) ≡ true = ap fine (sym (fault ∙ leaf_total (name_of k) ws) ∙ good) in
     let bad : true ≡ false = sym none ∙ ends in absurd cc
-rows_read cs words name rows k ws (Some g) e ends named asks fault good same is =
+rows_read words name rows k ws (Some g) e ends named asks fault good same is =
     let shows : Finished rows g = subst (λ (t : List Row). Finished t g) is (shows_finished (ended (at [] None idle false) ws).held g ends.1) in
     record {
       command = k;
-      named = ap (command_named cs) (sym same) ∙ named;
+      named = ap (command_named every_command) (sym same) ∙ named;
       flag = is_flagged g.threads;
       flagged = shows.threads ∙ ap (λ t. Some t) (flag_is g.threads);
       asks = asks ∙ sym (asks_same k ws) ∙ ap (option_and_then (asked_of k)) e ∙ asks_given k g rows shows (merged_once (cut_from false ws) g e);
@@ -192,15 +199,15 @@ rows_read cs words name rows k ws (Some g) e ends named asks fault good same is 
 some_pair : (a b : Text × List Row) → Some a ≡ Some b → (a.0 ≡ b.0) × (a.1 ≡ b.1)
 some_pair a b e = let same : a ≡ b = cc in (ap (λ p. p.0) same, ap (λ p. p.1) same)
 
-entry_read : (cs : List Command) (words : List Text) (name : Text) (rows : List Row) → LineEnds cs words → fault_of (line_of cs) words ≡ [] → subcommand_of (line_of cs) words ≡ Some (name, rows) → Reads cs words name rows
-entry_read cs words name rows (astray (inl bad) none) good sub = let both : false ≡ true = sym bad ∙ ap fine good in absurd cc
-entry_read cs words name rows (astray (inr bad) none) good sub = let both : ◌≡◌ {A = Option (Text × List Row)} None (Some (name, rows)) = sym bad ∙ sub in absurd cc
-entry_read cs words name rows (enters k ws u named asks fault is) good sub =
+entry_read : (words : List Text) (name : Text) (rows : List Row) → LineEnds words → fault_of (line_of every_command) words ≡ [] → subcommand_of (line_of every_command) words ≡ Some (name, rows) → Reads words name rows
+entry_read words name rows (astray (inl bad) none) good sub = let both : false ≡ true = sym bad ∙ ap fine good in absurd cc
+entry_read words name rows (astray (inr bad) none) good sub = let both : ◌≡◌ {A = Option (Text × List Row)} None (Some (name, rows)) = sym bad ∙ sub in absurd cc
+entry_read words name rows (enters k ws u named asks fault is) good sub =
     let pair = some_pair (name_of k, finished rules (ended (at [] None idle false) ws).held) (name, rows) (ap (λ p. Some p) (sym (leaf_rows (name_of k) ws)) ∙ sym is ∙ sub) in
-    rows_read cs words name rows k ws (merged nothing_given (cut_from false ws)) refl (leaf_ends (name_of k) ws u) named asks fault good pair.0 pair.1
+    rows_read words name rows k ws (merged nothing_given (cut_from false ws)) refl (leaf_ends (name_of k) ws u) named asks fault good pair.0 pair.1
 
-pub reads : (cs : List Command) (words : List Text) (name : Text) (rows : List Row) → AllUtf8 words → fault_of (line_of cs) words ≡ [] → subcommand_of (line_of cs) words ≡ Some (name, rows) → Reads cs words name rows
-reads cs words name rows u good sub = entry_read cs words name rows (line_ends cs words u) good sub
+pub reads : (words : List Text) (name : Text) (rows : List Row) → AllUtf8 words → fault_of (line_of every_command) words ≡ [] → subcommand_of (line_of every_command) words ≡ Some (name, rows) → Reads words name rows
+reads words name rows u good sub = entry_read words name rows (line_ends words u) good sub
 
 -- ---- as the code meets it
 
@@ -212,10 +219,10 @@ all_utf8 (w ∷ ws) = (IsUtf8-string_bytes w, all_utf8 ws)
 some_kind : (k : ErrorKind) (kinds : Kinds) → IsAmong k kinds → kinds ≡ [] → ⊥
 some_kind k kinds h none = let Q : Kinds → Type 0 = IsAmong k in subst Q none h
 
-pub refused_error : (cs : List Command) (words : List Text) (app : App) (e : Error) → AllUtf8 words → app ≡ line_of cs → (is_simple_and_free app ≡ true → HasKind (fault_of app words) e) → (kind_of e ≡ OutOfMemory → ⊥) → asked cs words ≡ None
-refused_error cs words app e u is kinds other =
-    let has = kinds (ap is_simple_and_free is ∙ line_simple cs) in
-    refused cs words u (λ none. elim has [ inl memory ↦ other memory | inr among ↦ some_kind (kind_of e) (fault_of app words) among (ap (λ a. fault_of a words) is ∙ none) ])
+pub refused_error : (words : List Text) (app : App) (e : Error) → AllUtf8 words → app ≡ line_of every_command → (is_simple_and_free app ≡ true → HasKind (fault_of app words) e) → (kind_of e ≡ OutOfMemory → ⊥) → asked words ≡ None
+refused_error words app e u is kinds other =
+    let has = kinds (ap is_simple_and_free is ∙ line_simple every_command) in
+    refused words u (λ none. elim has [ inl memory ↦ other memory | inr among ↦ some_kind (kind_of e) (fault_of app words) among (ap (λ a. fault_of a words) is ∙ none) ])
 
 no_option : {X Y : Type 0} (f : X → Y) (o : Option X) → false ≡ is_some o → option_map f o ≡ None
 no_option f None e = refl
@@ -225,11 +232,11 @@ first_true : (a b : Bool) → (a && b) ≡ true → a ≡ true
 first_true true b e = refl
 first_true false b e = absurd cc
 
-matches_are : (cs : List Command) (words : List Text) (app : App) (m : ArgMatches) → app ≡ line_of cs → HasMatchesOf app words m → subcommand_rows_of m ≡ subcommand_of (line_of cs) words
-matches_are cs words app m is h = (h (ap is_simple is ∙ first_true (is_simple (line_of cs)) (is_free_app (built (line_of cs))) (line_simple cs))).1 ∙ ap (λ a. subcommand_of a words) is
+matches_are : (words : List Text) (app : App) (m : ArgMatches) → app ≡ line_of every_command → HasMatchesOf app words m → subcommand_rows_of m ≡ subcommand_of (line_of every_command) words
+matches_are words app m is h = (h (ap is_simple is ∙ first_true (is_simple (line_of every_command)) (is_free_app (built (line_of every_command))) (line_simple every_command))).1 ∙ ap (λ a. subcommand_of a words) is
 
-pub none_met : (cs : List Command) (words : List Text) (app : App) (m : ArgMatches) → AllUtf8 words → app ≡ line_of cs → HasMatchesOf app words m → false ≡ has_subcommand m → asked cs words ≡ None
-none_met cs words app m u is h none = no_subcommand cs words u (sym (matches_are cs words app m is h) ∙ no_option _ (out-ArgMatches m).subcommand none)
+pub none_met : (words : List Text) (app : App) (m : ArgMatches) → AllUtf8 words → app ≡ line_of every_command → HasMatchesOf app words m → false ≡ has_subcommand m → asked words ≡ None
+none_met words app m u is h none = no_subcommand words u (sym (matches_are words app m is h) ∙ no_option _ (out-ArgMatches m).subcommand none)
 
 met_so : (o : Option (Box SubCommand Global)) (name : Text) (rows : List Row) → Some name ≡ option_map (λ b. (out-SubCommand (box_value b)).name.now) o → Some rows ≡ option_map (λ p. p.1) (subcommand_rows o) → subcommand_rows o ≡ Some (name, rows)
 met_so None name rows e f = absurd cc
@@ -238,10 +245,10 @@ met_so (Some b) name rows e f =
     let same : rows ≡ rows_of (found_of (out-SubCommand (box_value b)).matches) = cc in
     ap₂ (λ n r. Some (n, r)) (sym names) (sym same)
 
-pub met : (cs : List Command) (words : List Text) (app : App) (m : ArgMatches) (name : Text) (rows : List Row) → AllUtf8 words → app ≡ line_of cs → (is_simple_and_free app ≡ true → fault_of app words ≡ []) → HasMatchesOf app words m
-    → Some name ≡ subcommand_name_of m → Some rows ≡ option_map (λ p. p.1) (subcommand_rows_of m) → Reads cs words name rows
-met cs words app m name rows u is kinds h e f =
-    reads cs words name rows u (ap (λ a. fault_of a words) (sym is) ∙ kinds (ap is_simple_and_free is ∙ line_simple cs)) (sym (matches_are cs words app m is h) ∙ met_so (out-ArgMatches m).subcommand name rows e f)
+pub met : (words : List Text) (app : App) (m : ArgMatches) (name : Text) (rows : List Row) → AllUtf8 words → app ≡ line_of every_command → (is_simple_and_free app ≡ true → fault_of app words ≡ []) → HasMatchesOf app words m
+    → Some name ≡ subcommand_name_of m → Some rows ≡ option_map (λ p. p.1) (subcommand_rows_of m) → Reads words name rows
+met words app m name rows u is kinds h e f =
+    reads words name rows u (ap (λ a. fault_of a words) (sym is) ∙ kinds (ap is_simple_and_free is ∙ line_simple every_command)) (sym (matches_are words app m is h) ∙ met_so (out-ArgMatches m).subcommand name rows e f)
 
 pub lent_are : (o : Option (Bor (List (Bor Text)))) (f : Found) (id : Text) → option_map (λ s. map (λ v. v.now) s.now) o ≡ option_map raw_values (matched_of f id) → lent_texts o ≡ values_at id (rows_of f)
 lent_are o f id e = lent_so o ∙ ap (λ (t : Option (List Text)). unwrap_or t []) (e ∙ raw_values-rows f id)

@@ -1,11 +1,12 @@
 -- What the words ask for lies within its bounds.
-use Rattle.std.proofs.Common.{◌∙◌, ap, sym, ◌≡◌, ℕ, suc, zero, ◌*◌, ◌-◌, ◌^◌, ◌<◌, ◌≤◌, Bool, true, false, cond, ◌&&◌, nat_le, List, [], ◌∷◌, Option, Some, None, refl, sym, subst, arith}
+use Rattle.std.proofs.Common.{◌≡◌, ℕ, suc, zero, ◌*◌, ◌-◌, ◌^◌, ◌<◌, ◌≤◌, Bool, true, false, cond, ◌&&◌, nat_le, List, [], ◌∷◌, Option, Some, None, refl, sym, subst, arith}
 use Rattle.std.specs.Prelude.{option_and_then, IfSome}
 use Rattle.std.specs.Option.{option_map}
 use Rattle.std.proofs.lemmas.Bool.{leb-true}
 use Rattle.tool_words.specs.Given.{Text, Given, sorted}
 use Rattle.tool_words.specs.FileName.{is_name}
-use Rattle.tool_words.specs.CommandWords.{number_within, how_by, how_of, with_numbers, target_of, split_of, join_of, move_of, check_of, run_of, load_of, asked_by, asked_of, command_of, command_named, asked}
+use Rattle.tool_words.specs.CommandNames.{every_command}
+use Rattle.tool_words.specs.CommandWords.{number_within, how_by, how_of, with_numbers, target_of, split_of, join_of, move_of, check_of, run_of, load_of, asked_by, asked_of, command_named, asked}
 use Rattle.tool_words.specs.Within.{IsTarget, IsHow, IsWithin}
 use Rattle.tool_words.specs.declared.command.Command.{Command}
 use Rattle.tool_words.specs.declared.command.Command.TheVariants as command
@@ -75,15 +76,12 @@ how_within (suc (suc n)) (s ∷ t ∷ ss) how e = absurd cc
 
 -- ---- the commands
 
-abbrev By : Command → Asked → Type 0
-By c r = IsWithin r × (command_of r ≡ c)
-
-split_within : (places : List Text) (r : Asked) → split_of places ≡ Some r → By command.Split r
+split_within : (places : List Text) (r : Asked) → split_of places ≡ Some r → IsWithin r
 unfolding split_of
 split_within (i ∷ o ∷ p ∷ q ∷ mb ∷ nb ∷ []) r e =
     let names = chosen (is_name i && is_name o) (option_map (λ t. Split i o t.p t.q t.mb t.nb) (target_of p q mb nb)) r e in
     let target = mapped (λ t. Split i o t.p t.q t.mb t.nb) (target_of p q mb nb) r names.1 in
-    subst (By command.Split) target.1.1 (target_within p q mb nb target.0 target.1.0, refl)
+    subst IsWithin target.1.1 (target_within p q mb nb target.0 target.1.0)
 split_within [] r e = absurd cc
 split_within (a ∷ []) r e = absurd cc
 split_within (a ∷ b ∷ []) r e = absurd cc
@@ -92,12 +90,12 @@ split_within (a ∷ b ∷ c ∷ d ∷ []) r e = absurd cc
 split_within (a ∷ b ∷ c ∷ d ∷ f ∷ []) r e = absurd cc
 split_within (a ∷ b ∷ c ∷ d ∷ f ∷ g ∷ z ∷ zs) r e = absurd cc
 
-move_within : (places : List Text) (how : How) (r : Asked) → IsHow how → move_of places how ≡ Some r → By command.Move r
+move_within : (places : List Text) (how : How) (r : Asked) → IsHow how → move_of places how ≡ Some r → IsWithin r
 unfolding move_of
 move_within (i ∷ o ∷ p ∷ q ∷ mb ∷ nb ∷ []) how r k e =
     let names = chosen (is_name i && is_name o) (option_map (λ t. Move i o t.p t.q t.mb t.nb how) (target_of p q mb nb)) r e in
     let target = mapped (λ t. Move i o t.p t.q t.mb t.nb how) (target_of p q mb nb) r names.1 in
-    subst (By command.Move) target.1.1 ((target_within p q mb nb target.0 target.1.0, k), refl)
+    subst IsWithin target.1.1 (target_within p q mb nb target.0 target.1.0, k)
 move_within [] how r k e = absurd cc
 move_within (a ∷ []) how r k e = absurd cc
 move_within (a ∷ b ∷ []) how r k e = absurd cc
@@ -106,44 +104,44 @@ move_within (a ∷ b ∷ c ∷ d ∷ []) how r k e = absurd cc
 move_within (a ∷ b ∷ c ∷ d ∷ f ∷ []) how r k e = absurd cc
 move_within (a ∷ b ∷ c ∷ d ∷ f ∷ g ∷ z ∷ zs) how r k e = absurd cc
 
-join_within : (places : List Text) (r : Asked) → join_of places ≡ Some r → By command.Join r
+join_within : (places : List Text) (r : Asked) → join_of places ≡ Some r → IsWithin r
 unfolding join_of
 join_within (i ∷ o ∷ []) r e =
     let names = chosen (is_name i && is_name o) (Some (Join i o)) r e in
-    subst (By command.Join) (some_is (Join i o) r names.1) (tt, refl)
+    subst IsWithin (some_is (Join i o) r names.1) tt
 join_within [] r e = absurd cc
 join_within (a ∷ []) r e = absurd cc
 join_within (a ∷ b ∷ z ∷ zs) r e = absurd cc
 
-check_within : (places : List Text) (r : Asked) → check_of places ≡ Some r → By command.Check r
+check_within : (places : List Text) (r : Asked) → check_of places ≡ Some r → IsWithin r
 unfolding check_of
-check_within (i ∷ []) r e = let name = chosen (is_name i) (Some (Check i)) r e in subst (By command.Check) (some_is (Check i) r name.1) (tt, refl)
+check_within (i ∷ []) r e = let name = chosen (is_name i) (Some (Check i)) r e in subst IsWithin (some_is (Check i) r name.1) tt
 check_within [] r e = absurd cc
 check_within (a ∷ z ∷ zs) r e = absurd cc
 
-run_within : (places : List Text) (how : How) (r : Asked) → IsHow how → run_of places how ≡ Some r → By command.Run r
+run_within : (places : List Text) (how : How) (r : Asked) → IsHow how → run_of places how ≡ Some r → IsWithin r
 unfolding run_of
-run_within (i ∷ []) how r k e = let name = chosen (is_name i) (Some (Run i how)) r e in subst (By command.Run) (some_is (Run i how) r name.1) (k, refl)
+run_within (i ∷ []) how r k e = let name = chosen (is_name i) (Some (Run i how)) r e in subst IsWithin (some_is (Run i how) r name.1) k
 run_within [] how r k e = absurd cc
 run_within (a ∷ z ∷ zs) how r k e = absurd cc
 
-load_by : (seed size : Text) (r : Asked) (m n : Option ℕ) → number_within 0 (2 ^ 64 - 1) seed ≡ m → number_within 1 2000 size ≡ n → load_of (seed ∷ size ∷ []) ≡ Some r → By command.Load r
+load_by : (seed size : Text) (r : Asked) (m n : Option ℕ) → number_within 0 (2 ^ 64 - 1) seed ≡ m → number_within 1 2000 size ≡ n → load_of (seed ∷ size ∷ []) ≡ Some r → IsWithin r
 unfolding load_of
 load_by seed size r (Some m) (Some n) f g e =
     let is : Some (Load m n) ≡ Some r = rw (f, g) at e in
     let b = number_bounds 1 2000 n size g in
-    subst (By command.Load) (some_is (Load m n) r is) ((below m seed f, b.0, b.1), refl)
+    subst IsWithin (some_is (Load m n) r is) (below m seed f, b.0, b.1)
 load_by seed size r (Some m) None f g e = let none : ◌≡◌ {A = Option Asked} None (Some r) = rw (f, g) at e in absurd cc
 load_by seed size r None n f g e = let none : ◌≡◌ {A = Option Asked} None (Some r) = rw f at e in absurd cc
 
-load_within : (places : List Text) (r : Asked) → load_of places ≡ Some r → By command.Load r
+load_within : (places : List Text) (r : Asked) → load_of places ≡ Some r → IsWithin r
 unfolding load_of
 load_within (i ∷ o ∷ []) r e = load_by i o r _ _ refl refl e
 load_within [] r e = absurd cc
 load_within (a ∷ []) r e = absurd cc
 load_within (a ∷ b ∷ z ∷ zs) r e = absurd cc
 
-by_within : (c : Command) (places : List Text) (how : How) (r : Asked) → IsHow how → asked_by c places how ≡ Some r → By c r
+by_within : (c : Command) (places : List Text) (how : How) (r : Asked) → IsHow how → asked_by c places how ≡ Some r → IsWithin r
 by_within command.Split places Plain r k e = split_within places r e
 by_within command.Split places Threads r k e = absurd cc
 by_within command.Split places (Seed s) r k e = absurd cc
@@ -159,34 +157,20 @@ by_within command.Load places Plain r k e = load_within places r e
 by_within command.Load places Threads r k e = absurd cc
 by_within command.Load places (Seed s) r k e = absurd cc
 
-of_within : (c : Command) (g : Given) (r : Asked) → asked_of c g ≡ Some r → By c r
+of_within : (c : Command) (g : Given) (r : Asked) → asked_of c g ≡ Some r → IsWithin r
 of_within c g r e =
     let f = followed (asked_by c g.places) (how_of g) r e in
     by_within c g.places f.0 r (how_within g.threads g.seeds f.0 f.1.0) f.1.1
 
--- what the first word names, and what it asks
-record Names (built : List Command) (r : Asked) : Type 0 where
-  word : Text
-  named : command_named built word ≡ Some (command_of r)
-  within : IsWithin r
-
-names_by : (built : List Command) (words : List Text) (r : Asked) → asked built words ≡ Some r → Names built r
-unfolding asked
-names_by built [] r e = absurd cc
-names_by built (first ∷ others) r e =
-    let c = followed (λ c. option_and_then (asked_of c) (sorted others)) (command_named built first) r e in
-    let g = followed (asked_of c.0) (sorted others) r c.1.1 in
-    let by = of_within c.0 g.0 r g.1.1 in
-    record { word = first; named = c.1.0 ∙ ap (λ c. Some c) (sym by.1); within = by.0 }
-
 -- What the words ask for lies within its bounds.
-pub asked_within : (built : List Command) (words : List Text) (r : Asked) → asked built words ≡ Some r → IsWithin r
-asked_within built words r e = (names_by built words r e).within
+pub asked_within : (words : List Text) (r : Asked) → asked words ≡ Some r → IsWithin r
+unfolding asked
+asked_within [] r e = absurd cc
+asked_within (first ∷ others) r e =
+    let c = followed (λ c. option_and_then (asked_of c) (sorted others)) (command_named every_command first) r e in
+    let g = followed (asked_of c.0) (sorted others) r c.1.1 in
+    of_within c.0 g.0 r g.1.1
 
--- What the words ask for is asked of a command that is built.
-pub asked_command : (built : List Command) (words : List Text) (r : Asked) → asked built words ≡ Some r → (word : Text) × (command_named built word ≡ Some (command_of r))
-asked_command built words r e = let n = names_by built words r e in (n.word, n.named)
-
-pub within_asked : (built : List Command) (words : List Text) (r : Option Asked) → r ≡ asked built words → IfSome r IsWithin
-within_asked built words None e = tt
-within_asked built words (Some r) e = asked_within built words r (sym e)
+pub within_asked : (words : List Text) (r : Option Asked) → r ≡ asked words → IfSome r IsWithin
+within_asked words None e = tt
+within_asked words (Some r) e = asked_within words r (sym e)

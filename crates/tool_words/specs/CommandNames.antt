@@ -1,7 +1,10 @@
--- The words that name the commands.
-use Rattle.std.specs.Prelude.{ℕ, List, codes}
+-- The commands of the tool and the words that name them.
+use Rattle.std.specs.Prelude.{ℕ, List, [], ◌∷◌, codes}
 use Rattle.tool_words.specs.declared.command.Command.{Command}
 use Rattle.tool_words.specs.declared.command.Command.TheVariants.{Split, Join, Move, Check, Run, Load}
+
+unfoldable pub every_command : List Command
+every_command = Split ∷ Join ∷ Move ∷ Check ∷ Run ∷ Load ∷ []
 
 unfoldable pub name_of : Command → List ℕ
 name_of Split = codes "split"

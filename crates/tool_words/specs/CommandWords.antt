@@ -3,7 +3,7 @@ use Rattle.std.specs.Prelude.{ℕ, zero, suc, ◌*◌, ◌^◌, ◌-◌, ◌&&�
 use Rattle.std.specs.Option.{option_map}
 use Rattle.std.specs.Str.{bytes_eq}
 use Rattle.line_text.specs.Numbers.{digits_number}
-use Rattle.tool_words.specs.CommandNames.{name_of}
+use Rattle.tool_words.specs.CommandNames.{every_command, name_of}
 use Rattle.tool_words.specs.FileName.{is_name}
 use Rattle.tool_words.specs.Given.{Text, Given, sorted}
 use Rattle.tool_words.specs.declared.command.Command.{Command}
@@ -96,23 +96,14 @@ asked_by command.Run places how = run_of places how
 asked_by command.Load places Plain = load_of places
 asked_by command places how = None
 
--- the command that asks so
-abbrev pub command_of : Asked → Command
-command_of (Split input output p q mb nb) = command.Split
-command_of (Join prefix output) = command.Join
-command_of (Move prefix output p q mb nb how) = command.Move
-command_of (Check program) = command.Check
-command_of (Run program how) = command.Run
-command_of (Load seed size) = command.Load
-
 abbrev pub asked_of : Command → Given → Option Asked
 asked_of c g = option_and_then (asked_by c g.places) (how_of g)
 
--- the command that is built and that the first word names, case as written
+-- the one of these commands that a word names, case as written
 abbrev pub command_named : List Command → Text → Option Command
-command_named built word = find (λ c. bytes_eq (name_of c) word) built
+command_named commands word = find (λ c. bytes_eq (name_of c) word) commands
 
--- What the words ask for where these commands are built. They are in the table exactly where they ask for something.
-unfoldable pub asked : (built : List Command) → (words : List Text) → Option Asked
-asked built [] = None
-asked built (first ∷ others) = option_and_then (λ c. option_and_then (asked_of c) (sorted others)) (command_named built first)
+-- What the words ask for. They are in the table exactly where they ask for something.
+unfoldable pub asked : (words : List Text) → Option Asked
+asked [] = None
+asked (first ∷ others) = option_and_then (λ c. option_and_then (asked_of c) (sorted others)) (command_named every_command first)

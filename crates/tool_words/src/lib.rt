@@ -11,6 +11,5 @@ mod target;
 mod word;
 
 pub use asked::{Asked, How};
-pub use command::Command;
 pub use read::read_words;
 pub use word::Word;

@@ -2,10 +2,10 @@
 ghost use Rattle.std.specs.Prelude.{◌≡◌, IfOk, false};
 ghost use Rattle.clap.specs.Words.{shape_of, app_of, rule_of};
 ghost use Rattle.clap.specs.declared.builder.command.Command.TheViews.{out-Command};
-ghost use Rattle.tool_words.specs.CommandNames.{name_of};
+ghost use Rattle.tool_words.specs.CommandNames.{every_command, name_of};
 ghost use Rattle.tool_words.specs.Line.{places_rule, threads_rule, seed_rule, shape_named, bare_line, line_of};
 
-use crate::Command;
+use crate::command::Command;
 use clap::{Arg, ArgAction};
 use std::alloc::{AllocError, Global};
 
@@ -61,12 +61,13 @@ fn bare<'a>(alloc: Global) -> clap::Command<'a>
         .disable_version_flag(true)
 }
 
-/// The line with these commands below it.
-pub(crate) fn line<'a>(alloc: Global, built: &[Command]) -> Result<clap::Command<'a>, AllocError>
-    ensures { IfOk result (λ c. app_of c ≡ line_of built.now) }
+/// The line with every command below it.
+pub(crate) fn line<'a>(alloc: Global) -> Result<clap::Command<'a>, AllocError>
+    ensures { IfOk result (λ c. app_of c ≡ line_of every_command) }
 {
+    let commands = Command::every();
     let mut line = bare(alloc);
-    for command in built {
+    for command in &commands {
         line = line.subcommand(subcommand(alloc, *command)?)?;
     }
     Ok(line)

@@ -1,31 +1,33 @@
 //! The words of the command line, read.
 ghost use Rattle.std.specs.Prelude.{◌≡◌, IfOk, IfSome, map, string_bytes};
+ghost use Rattle.tool_words.specs.CommandNames.{every_command};
 ghost use Rattle.tool_words.specs.CommandWords.{command_named, asked};
 ghost use Rattle.tool_words.specs.Within.{IsWithin};
 
+use crate::command::Command;
 use crate::line::line;
-use crate::{Asked, Command, table};
+use crate::{Asked, table};
 use clap::error::ErrorKind;
 use std::alloc::{AllocError, Global};
 
-// The command of this name that is built.
-fn named(built: &[Command], name: &str) -> Option<Command>
-    ensures { result ≡ command_named built.now name.now }
+// The command of this name.
+fn named(name: &str) -> Option<Command>
+    ensures { result ≡ command_named every_command name.now }
 {
-    built.iter().copied().find(|command| command.name() == name)
+    let commands = Command::every();
+    commands
+        .iter()
+        .copied()
+        .find(|command| command.name() == name)
 }
 
-/// What the words ask for where these commands are built; none exactly where they aren't in the table. The words are those of
-/// the command line without the program's name.
-pub fn read_words(
-    alloc: Global,
-    built: &[Command],
-    words: &[String],
-) -> Result<Option<Asked>, AllocError>
-    ensures asks { IfOk result (λ r. r ≡ asked built.now (map string_bytes words.now)) }
+/// What the words ask for; none exactly where they aren't in the table. The words are those of the command line without the
+/// program's name.
+pub fn read_words(alloc: Global, words: &[String]) -> Result<Option<Asked>, AllocError>
+    ensures asks { IfOk result (λ r. r ≡ asked (map string_bytes words.now)) }
     ensures within { IfOk result (λ r. IfSome r IsWithin) }
 {
-    let matches = match line(alloc, built)?.try_get_matches_from(words) {
+    let matches = match line(alloc)?.try_get_matches_from(words) {
         Ok(matches) => matches,
         Err(error) => {
             return match error.kind() {
@@ -37,7 +39,7 @@ pub fn read_words(
     let Some((name, given)) = matches.subcommand() else {
         return Ok(None);
     };
-    let Some(command) = named(built, name) else {
+    let Some(command) = named(name) else {
         return Ok(None);
     };
     let places = given.get_raw("words");

@@ -3,9 +3,10 @@ ghost use Rattle.std.specs.Prelude.{◌≡◌, map, IfOk, if◌then◌else◌, o
 ghost use Rattle.tool_words.specs.Line.{lent_texts};
 ghost use Rattle.tool_words.specs.CommandWords.{how_by, target_of, split_of, join_of, move_of, check_of, run_of, load_of, asked_by};
 
+use crate::command::Command;
 use crate::numbers::{is_file_name, long_number, number};
 use crate::target::Target;
-use crate::{Asked, Command, How, Word};
+use crate::{Asked, How, Word};
 use std::alloc::{AllocError, Global};
 
 // How a command runs, by its options: one stands once at most, and not beside the other.

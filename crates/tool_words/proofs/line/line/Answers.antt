@@ -11,4 +11,4 @@ pub loop-command-preserved : goal.loop-command-preserved
 loop-command-preserved c =
     c.in_ok-line.ensures.shape c.in_ok-subcommand.ensures.local
     ∙ ap₂ with_subcommand c.loop-command.invariant c.in_ok-subcommand.ensures.shape
-    ∙ line_more c.args.built.now c.loop-command.command-index Split (omega arith)
+    ∙ line_more c.every-commands.result c.loop-command.command-index Split (omega arith)

@@ -1,0 +1,13 @@
+pub mod DrawingLaws
+pub mod ListLaws
+pub mod SpreadSums
+pub mod SumLaws
+pub mod RowLaws
+pub mod PartLaws
+pub mod SizeLaws
+pub mod DrawnLaws
+pub mod DealtLaws
+pub mod TurnLaws
+pub mod MovedPieces
+pub mod AfterLaws
+pub mod JobLaws
