@@ -5,7 +5,7 @@
     bench/model.py --saves FILE    prints each saved file, too: a line `== NAME`, and then its text
     bench/model.py --check FILE    prints what `gridtool check FILE` prints
 
-It reads accepted programs alone: of a program that gridtool refuses it says nothing.
+It reads accepted programs only; refused.py, which stands on it, says which line of a program is refused, and why.
 """
 import sys
 
@@ -94,18 +94,24 @@ def fold(kind, words):
 
 
 class Program:
-    def __init__(self, text, read_file):
+    def __init__(self, read_file):
         self.read_file = read_file
         self.grids, self.arrays = {}, {}
         self.waits = {}
         self.operations = self.messages = self.message_words = 0
         self.output, self.saves = [], []
         self.ranks = 0
+
+    def do(self, words):
+        """One line, by its words."""
+        getattr(self, "do_" + words[0].lower())(words[1:])
+
+    def do_all(self, text):
+        """Each line that isn't skipped."""
         for line in text.split("\n"):
-            words = line.replace("\t", " ").replace("\r", "").split(" ")
-            words = [w for w in words if w]
+            words = [w for w in line.replace("\t", " ").replace("\r", "").split(" ") if w]
             if words and not words[0].startswith("#"):
-                getattr(self, "do_" + words[0].lower())(words[1:])
+                self.do(words)
 
     # ---- declarations
 
@@ -315,7 +321,8 @@ def read(name):
 
 def main(args):
     is_check = "--check" in args
-    program = Program(read(args[-1]), None if is_check else read)
+    program = Program(None if is_check else read)
+    program.do_all(read(args[-1]))
     if is_check:
         sys.stdout.write(program.summary())
         return
@@ -325,4 +332,5 @@ def main(args):
     sys.stdout.write("".join(program.output))
 
 
-main(sys.argv[1:])
+if __name__ == "__main__":
+    main(sys.argv[1:])

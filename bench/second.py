@@ -1,6 +1,7 @@
-"""A second reading of docs/FORMATS.md: what split, join and move answer, on whole lists of lines, without a line of the proved code.
+"""A second reading of docs/FORMATS.md: what the commands answer, on whole lists of lines, without a line of the proved code.
 
-answer(words, files) gives (status, files after, output, error stream): files are a dict from names to bytes.
+answer(words, files) gives (status, files after, output, error stream): files are a dict from names to bytes. Programs are
+read by refused.py.
 """
 BANNER = b"%%MatrixMarket matrix array integer general\n"
 USAGE = None  # the usage text is compared by .ci/pages
@@ -201,7 +202,15 @@ def read_piece(data, first, row, column, words_so_far):
     return head, values_of(lines, at + 1, r * c, -2**31)
 
 
+def is_no_file(name):
+    """Whether the last part of a name is a folder, or too long for a file system."""
+    last = name.split("/")[-1]
+    return last in ("", ".", "..") or len(last.encode()) > 255
+
+
 def named(files, name, read):
+    if is_no_file(name):
+        raise Stop(3, f"gridtool: {name}: store fault\n")
     if name not in files:
         raise Missing(name)
     try:
@@ -290,6 +299,24 @@ def numbers_of_move(head, p, q, mb, nb):
     return len(rows) * len(columns), len(pairs) - copies, copies
 
 
+# ---- the job of a seed and a size
+
+def drawn(seed, count):
+    """The first numbers of a linear congruential generator modulo 2^64, each the upper half of the next state, in two's complement."""
+    state = seed
+    for _ in range(count):
+        state = (state * 6364136223846793005 + 1442695040888963407) % 2**64
+        yield (state >> 32) - 2**32 * (state >> 63)
+
+
+def job_line(seed, size):
+    """The drawn matrix goes from 4 by 4 processes in blocks of 64 to 2 by 8 in blocks of 32, and back."""
+    there = numbers_of_move(Head([4, 4, 0, 0, size, size, 64, 64, 0, 0, 0]), 2, 8, 32, 32)
+    back = numbers_of_move(Head([2, 8, 0, 0, size, size, 32, 32, 0, 0, 0]), 4, 4, 64, 64)
+    meets, messages, copies = (a + b for a, b in zip(there, back))
+    return f"load {seed} {size} meets {meets} messages {messages} copies {copies} sum {sum(drawn(seed, size * size))}\n"
+
+
 # ---- words of the command line
 
 def number(word):
@@ -341,21 +368,31 @@ def grid_words(words):
 
 def asked(words):
     """The command and its arguments, or None."""
-    counts = {"split": 6, "join": 2, "move": 6}
+    counts = {"split": 6, "join": 2, "move": 6, "check": 1, "run": 1, "load": 2}
     if not words or words[0] not in counts:
         return None
-    found = sorted_words(words[1:], words[0] == "move")
+    found = sorted_words(words[1:], words[0] in ("move", "run"))
     if found is None or len(found[0]) != counts[words[0]]:
         return None
     plain = found[0]
-    if not is_name(plain[0]) or not is_name(plain[1]):
+    if words[0] == "load":
+        seed, size = number(plain[0]), number(plain[1])
+        good = seed is not None and seed < 2**64 and size is not None and 1 <= size <= 2000
+        return ("load", seed, size, []) if good else None
+    if not all(is_name(word) for word in plain[:2]):
         return None
     grid = grid_words(plain[2:]) if len(plain) == 6 else []
-    return None if grid is None else (words[0], plain[0], plain[1], grid)
+    return None if grid is None else (words[0], plain[0], plain[-1] if len(plain) == 1 else plain[1], grid)
 
 
 def walk(command, name, out, grid, files):
     """The saves and the output of a command."""
+    if command in ("check", "run"):
+        import refused
+
+        return (refused.check if command == "check" else refused.run)(name, files)
+    if command == "load":
+        return [], job_line(name, out)
     if command == "split":
         m, n, rows = named(files, name, read_matrix)
         within_job(max(1, m) * max(1, n) + words_in_pieces(m, n, *grid) + m * n)
@@ -382,5 +419,8 @@ def answer(words, files):
     except Stop as stop:
         return stop.status, files, "", stop.line
     after = dict(files)
-    after.update(saves)
+    for name, text in saves:
+        if is_no_file(name):
+            return 3, after, "", f"gridtool: {name}: store fault\n"
+        after[name] = text
     return 0, after, told, ""

@@ -2,7 +2,7 @@
 _gridtool() {
     local word=${COMP_WORDS[COMP_CWORD]} options=
     if [ "$COMP_CWORD" -eq 1 ]; then
-        COMPREPLY=($(compgen -W "split join move check run" -- "$word"))
+        COMPREPLY=($(compgen -W "split join move check run load" -- "$word"))
         return
     fi
     case ${COMP_WORDS[1]} in
@@ -10,7 +10,7 @@ _gridtool() {
     esac
     case $word in
         -*) COMPREPLY=($(compgen -W "$options" -- "$word")) ;;
-        *) COMPREPLY=($(compgen -f -- "$word")) ;;
+        *) [ "${COMP_WORDS[1]}" = load ] || COMPREPLY=($(compgen -f -- "$word")) ;;
     esac
 }
 complete -F _gridtool gridtool ./gridtool
