@@ -5,9 +5,10 @@ use mathlib.Core.Logic.{inl, inr}
 use Rattle.line_text.specs.Formats.{Format, Refusal, read_all}
 use Rattle.line_text.specs.FaultTables.{FaultTable, step_faults}
 use Rattle.line_text.specs.FormatMeaning.{Leads, IsAccepted, FailsAtLine, IsRefused}
-use Rattle.line_text.specs.FormatLaws.{Describes, IsDecided, IsFirst, GoesOn}
+use Rattle.line_text.specs.FormatLaws.{Describes, IsDecided, IsFirst}
 use Rattle.line_text.proofs.FormatSteps.{leads_append}
-use Rattle.line_text.proofs.FormatReadings.{Tells, tells, passes, read_accepted, read_refused}
+use Rattle.line_text.proofs.FormatReadings.{Tells, tells, read_accepted, read_refused}
+use Rattle.line_text.proofs.Answers.{ok_is, err_is}
 
 -- The steps of a format describe it, where it has no words of its own.
 pub by_steps : {State Line Value Fault : Type 0} (format : Format State Line Value Fault) → Describes format (step_faults format) (Leads format) (IsAccepted format (Leads format))
@@ -26,25 +27,18 @@ one_of : {State Line Value Fault : Type 0} (faults : FaultTable State Line Fault
 one_of faults Stands Text all (Ok v) is = inl (v, is)
 one_of faults Stands Text all (Err r) is = inr (r, is)
 
-same_value : {Value Fault : Type 0} (x : Result Value Fault) (v w : Value) → x ≡ Ok v → x ≡ Ok w → v ≡ w
-same_value x v w a b = cc
-
-same_fault : {Value Fault : Type 0} (x : Result Value Fault) (r s : Fault) → x ≡ Err r → x ≡ Err s → r ≡ s
-same_fault x r s a b = cc
-
-never_both : {Value Fault : Type 0} (x : Result Value Fault) (v : Value) (r : Fault) → x ≡ Ok v → x ≡ Err r → ⊥
-never_both x v r a b = cc
-
 clash : {State Line Value Fault : Type 0} (format : Format State Line Value Fault) (faults : FaultTable State Line Fault) (Stands : List Line → State → Type 0) (Text : List Line → Value → Type 0) → Describes format faults Stands Text
     → (all : List Line) (v : Value) (r : Refusal Fault) → Text all v → IsRefused faults Stands all r → ⊥
-clash format faults Stands Text d all v r a b = never_both (read_all format all) v r (read_accepted format faults Stands Text d all v a) (read_refused format faults Stands Text d all r b)
+clash {Value = Value} {Fault = Fault} format faults Stands Text d all v r a b =
+    let both : ◌≡◌ {A = Result Value (Refusal Fault)} (Ok v) (Err r) = sym (read_accepted format faults Stands Text d all v a) ∙ read_refused format faults Stands Text d all r b in
+    absurd cc
 
 pub decided : {State Line Value Fault : Type 0} (format : Format State Line Value Fault) (faults : FaultTable State Line Fault) (Stands : List Line → State → Type 0) (Text : List Line → Value → Type 0) → Describes format faults Stands Text
     → IsDecided format faults Stands Text
 decided format faults Stands Text d = record {
   either = λ bytes. one_of faults Stands Text (format.lines_of bytes) (read_all format (format.lines_of bytes)) (tells format faults Stands Text d (format.lines_of bytes));
-  one_value = λ bytes v w a b. same_value (read_all format (format.lines_of bytes)) v w (read_accepted format faults Stands Text d (format.lines_of bytes) v a) (read_accepted format faults Stands Text d (format.lines_of bytes) w b);
-  one_fault = λ bytes r s a b. same_fault (read_all format (format.lines_of bytes)) r s (read_refused format faults Stands Text d (format.lines_of bytes) r a) (read_refused format faults Stands Text d (format.lines_of bytes) s b);
+  one_value = λ bytes v w a b. ok_is v w (sym (read_accepted format faults Stands Text d (format.lines_of bytes) v a) ∙ read_accepted format faults Stands Text d (format.lines_of bytes) w b);
+  one_fault = λ bytes r s a b. err_is r s (sym (read_refused format faults Stands Text d (format.lines_of bytes) r a) ∙ read_refused format faults Stands Text d (format.lines_of bytes) s b);
   not_both = λ bytes. clash format faults Stands Text d (format.lines_of bytes);
 }
 
@@ -94,7 +88,3 @@ first format faults Stands Text d = record {
       clash format faults Stands Text d all v (record { line = suc (length before); fault = fault }) text (record { before = before; state = state; stand = stand; number = refl; next = inr bad });
   taken = λ all front behind r is cut number. taken_before faults Stands all front behind r is cut number;
 }
-
-pub going : {State Line Value Fault : Type 0} (format : Format State Line Value Fault) (faults : FaultTable State Line Fault) (Stands : List Line → State → Type 0) (Text : List Line → Value → Type 0) → Describes format faults Stands Text
-    → GoesOn format Stands
-going format faults Stands Text d = record { passes = passes format faults Stands Text d }

@@ -33,7 +33,7 @@ passes_from format n k state last [] left leads e = same_number format n k state
 passes_from format n k state last (line ∷ taken) left leads e =
     on_step format n state leads.0 line (taken ++ left) leads.1 ∙ passes_from format (suc n) k leads.0 last taken left leads.2 (omega arith)
 
--- Lines that are taken, and lines that are taken behind them, are taken together, and such lines can be cut.
+-- Lines that are taken, and lines that are taken behind them, are taken together.
 pub leads_append : {State Line Value Fault : Type 0} (format : Format State Line Value Fault) (n k : ℕ) (state middle last : State) (front behind : List Line) → LeadsFrom format n state front middle → k ≡ n + length front
     → LeadsFrom format k middle behind last → LeadsFrom format n state (front ++ behind) last
 leads_append format n k state middle last [] behind first e second =
@@ -41,12 +41,3 @@ leads_append format n k state middle last [] behind first e second =
     subst (λ s. LeadsFrom format n s behind last) (sym first) (subst (λ i. LeadsFrom format i middle behind last) same second)
 leads_append format n k state middle last (line ∷ front) behind first e second =
     (first.0, first.1, leads_append format (suc n) k first.0 middle last front behind first.2 (omega arith) second)
-
-pub leads_cut : {State Line Value Fault : Type 0} (format : Format State Line Value Fault) (n k : ℕ) (state last : State) (front behind : List Line) → LeadsFrom format n state (front ++ behind) last → k ≡ n + length front
-    → (middle : State) × LeadsFrom format n state front middle × LeadsFrom format k middle behind last
-leads_cut format n k state last [] behind leads e =
-    let same : n ≡ k = omega arith in
-    (state, refl, subst (λ i. LeadsFrom format i state behind last) same leads)
-leads_cut format n k state last (line ∷ front) behind leads e =
-    let cut = leads_cut format (suc n) k leads.0 last front behind leads.2 (omega arith) in
-    (cut.0, (leads.0, leads.1, cut.1), cut.2)

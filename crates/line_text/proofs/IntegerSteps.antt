@@ -6,34 +6,27 @@ use Rattle.std.specs.Prelude.{FitsSigned}
 use Rattle.std.specs.Int.{w32}
 use Rattle.line_text.specs.Integers.{IsPast, IsOut, in_32_bits}
 
-capped : (cap n m : ℕ) → Some m ≡ option_map (λ x. min x cap) (Some n) → m ≡ min n cap
-capped cap n m e = cc
-
 -- no number
 pub no_number : (cap : ℕ) (f : ℕ → ℤ) (o : Option ℕ) → None ≡ option_map (λ x. min x cap) o → option_map f o ≡ None
 no_number cap f None e = refl
 no_number cap f (Some n) e = absurd cc
 
--- a number within the bound, and one past it
-pub positive_fits : (o : Option ℕ) (m : ℕ) → Some m ≡ option_map (λ x. min x (2 ^ 31)) o → m < 2 ^ 31 → option_map (λ n. pos n) o ≡ Some (pos m)
-positive_fits None m e small = absurd cc
-positive_fits (Some n) m e small = let c : m ≡ min n (2 ^ 31) = capped (2 ^ 31) n m e in let same : n ≡ m = omega arith in ap (λ (k : ℕ). Some (pos k)) same
+-- a number below the cap, and one that reaches it
+pub below_cap : (cap : ℕ) (f : ℕ → ℤ) (o : Option ℕ) (m : ℕ) → Some m ≡ option_map (λ x. min x cap) o → m < cap → option_map f o ≡ Some (f m)
+below_cap cap f None m e small = absurd cc
+below_cap cap f (Some n) m e small = let c : m ≡ min n cap = cc in let same : n ≡ m = omega arith in ap (λ (k : ℕ). Some (f k)) same
 
 pub positive_past : (o : Option ℕ) (m : ℕ) → Some m ≡ option_map (λ x. min x (2 ^ 31)) o → 2 ^ 31 ≤ m → IsOut (option_map (λ n. pos n) o)
 positive_past None m e large = absurd cc
-positive_past (Some n) m e large = let c : m ≡ min n (2 ^ 31) = capped (2 ^ 31) n m e in record { value = pos n; is = refl; past = omega arith }
+positive_past (Some n) m e large = let c : m ≡ min n (2 ^ 31) = cc in record { value = pos n; is = refl; past = omega arith }
 
 negatives : (n : ℕ) → 2 ^ 31 < n → IsPast (neg_ℤ (pos n))
 negatives zero large = absurd (omega arith)
 negatives (suc n) large = omega arith
 
-pub negative_fits : (o : Option ℕ) (m : ℕ) → Some m ≡ option_map (λ x. min x (2 ^ 31 + 1)) o → m ≤ 2 ^ 31 → option_map (λ n. neg_ℤ (pos n)) o ≡ Some (neg_ℤ (pos m))
-negative_fits None m e small = absurd cc
-negative_fits (Some n) m e small = let c : m ≡ min n (2 ^ 31 + 1) = capped (2 ^ 31 + 1) n m e in let same : n ≡ m = omega arith in ap (λ (k : ℕ). Some (neg_ℤ (pos k))) same
-
 pub negative_past : (o : Option ℕ) (m : ℕ) → Some m ≡ option_map (λ x. min x (2 ^ 31 + 1)) o → 2 ^ 31 < m → IsOut (option_map (λ n. neg_ℤ (pos n)) o)
 negative_past None m e large = absurd cc
-negative_past (Some n) m e large = let c : m ≡ min n (2 ^ 31 + 1) = capped (2 ^ 31 + 1) n m e in record { value = neg_ℤ (pos n); is = refl; past = negatives n (omega arith) }
+negative_past (Some n) m e large = let c : m ≡ min n (2 ^ 31 + 1) = cc in record { value = neg_ℤ (pos n); is = refl; past = negatives n (omega arith) }
 
 -- what is no integer, one of 32 bits, and another
 pub without_integer : (z : Option ℤ) → z ≡ None → None ≡ in_32_bits z

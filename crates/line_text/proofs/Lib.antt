@@ -1,11 +1,11 @@
+pub mod Answers
+pub mod Fronts
 pub mod LineLaws
 pub mod WordLaws
-pub mod WordSteps
 pub mod NumberLaws
 pub mod NumberSteps
 pub mod IntegerSteps
 pub mod WholeLineLaws
-pub mod LineSteps
 pub mod FormatSteps
 pub mod FormatReadings
 pub mod FormatLaws

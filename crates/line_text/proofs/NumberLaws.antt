@@ -12,7 +12,7 @@ use Rattle.std.proofs.lemmas.Bool.{ne_eqb}
 use Rattle.line_text.specs.Numbers.{digits_number, unsigned_number, signed_number}
 
 -- the model of numerals that the definitions here use
-own : IsNumeralModel (λ ds. all_ascii_digits ds ≡ true) (digits_value 10)
+pub own : IsNumeralModel (λ ds. all_ascii_digits ds ≡ true) (digits_value 10)
 own = numerals_by_value _ (search rules)
 
 numeral_is : (ds : List ℕ) → 0 < length ds → all_ascii_digits ds ≡ true → digits_number ds ≡ Some (digits_value 10 ds)

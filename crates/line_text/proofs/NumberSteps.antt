@@ -1,6 +1,5 @@
 -- Numbers, digit by digit, up to a cap.
-use Rattle.std.proofs.Common.{◌≡◌, ℕ, ◌+◌, ◌-◌, ◌*◌, ◌<◌, ◌≤◌, true, false, min, List, [], ◌∷◌, length, drop, get_or, ◌&&◌, nat_le, Some, None, refl, sym, ap, ◌∙◌, arith}
-use Rattle.std.specs.Option.{option_map}
+use Rattle.std.proofs.Common.{◌≡◌, ℕ, ◌+◌, ◌-◌, ◌*◌, ◌<◌, ◌≤◌, true, min, List, [], ◌∷◌, length, drop, get_or, ◌&&◌, nat_le, refl, sym, ap, ◌∙◌, arith}
 use Rattle.std.specs.List.{list_all}
 use Rattle.std.proofs.lemmas.Str.{digit_value_digit}
 use Rattle.std.specs.Str.{all_ascii_digits}
@@ -8,7 +7,6 @@ use Rattle.std.specs.Str.Parse.{digits_value, digits_value_after}
 use Rattle.std.specs.Char.{digit_value, is_ascii_digit}
 use Rattle.std.proofs.lemmas.Bool.{and_parts, leb-true}
 use Rattle.std.proofs.lemmas.List.{drop_more, drop_all}
-use Rattle.line_text.specs.Numbers.{digits_number}
 
 -- the same digits behind numbers that are the same up to the cap
 capped_after : (cap m n : ℕ) (ds : List ℕ) → min m cap ≡ min n cap → min (digits_value_after 10 m ds) cap ≡ min (digits_value_after 10 n ds) cap
@@ -59,19 +57,3 @@ capped_all cap m v i ds le on =
     let small : m ≤ cap = on.small in
     let gives : min m cap ≡ v = ap (λ bs. min (digits_value_after 10 m bs) cap) (sym (drop_all i ds le)) ∙ on.gives in
     omega arith
-
--- what `digits_number` gives
-pub number_of_none : (cap : ℕ) (ds : List ℕ) → length ds ≤ 0 → option_map (λ n. min n cap) (digits_number ds) ≡ None
-unfolding digits_number
-number_of_none cap [] none = refl
-number_of_none cap (d ∷ ds) none = absurd (omega arith)
-
-pub number_of_other : (cap : ℕ) (ds : List ℕ) → all_ascii_digits ds ≡ false → option_map (λ n. min n cap) (digits_number ds) ≡ None
-unfolding digits_number
-number_of_other cap [] unlike = refl
-number_of_other cap (d ∷ ds) unlike = rw unlike refl
-
-pub number_of_digits : (cap : ℕ) (ds : List ℕ) → 0 < length ds → all_ascii_digits ds ≡ true → option_map (λ n. min n cap) (digits_number ds) ≡ Some (min (digits_value 10 ds) cap)
-unfolding digits_number
-number_of_digits cap [] some all = absurd (omega arith)
-number_of_digits cap (d ∷ ds) some all = rw all refl

@@ -1,6 +1,6 @@
 -- What holds of every format. `Stands` says in the format's own words that lines lead to a state, `Text` that they are all lines of a text of a value.
 use Rattle.std.specs.Prelude.{◌≡◌, ℕ, suc, ◌⊎◌, List, [], ◌∷◌, ◌++◌, length, Ok, Err}
-use Rattle.line_text.specs.Formats.{Format, Refusal, read_on, read_all, read_text}
+use Rattle.line_text.specs.Formats.{Format, Refusal, read_text}
 use Rattle.line_text.specs.FaultTables.{FaultTable, fault_of}
 use Rattle.line_text.specs.FormatMeaning.{Leads, IsAccepted, FailsAtLine, FailsAtEnd, IsRefused}
 
@@ -39,7 +39,3 @@ pub record IsFirst {State Line Value Fault : Type 0} (faults : FaultTable State 
   pub stops : (all before more : List Line) (state : State) (fault : Fault) (value : Value) → Stands before state → (bad : FailsAtLine faults all before state fault) → Text ((before ++ bad.line ∷ []) ++ more) value → ⊥
   pub end_stops : (all before : List Line) (state : State) (fault : Fault) (value : Value) → Stands before state → FailsAtEnd faults all before state fault → Text all value → ⊥
   pub taken : (all front behind : List Line) (refusal : Refusal Fault) → IsRefused faults Stands all refusal → all ≡ front ++ behind → suc (length front) ≡ refusal.line → (state : State) × Stands front state
-
--- Reading what is left from the state after some lines is reading the whole.
-pub record GoesOn {State Line Value Fault : Type 0} (format : Format State Line Value Fault) (Stands : List Line → State → Type 0) : Type 0 where
-  pub passes : (taken left : List Line) (state : State) → Stands taken state → read_all format (taken ++ left) ≡ read_on format (suc (length taken)) state left

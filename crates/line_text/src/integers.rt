@@ -18,7 +18,7 @@ pub enum Integer {
 }
 
 // The number that digits write.
-#[tactic(auto, using(crate::proofs::IntegerSteps::no_number, crate::proofs::IntegerSteps::positive_fits, crate::proofs::IntegerSteps::positive_past))]
+#[tactic(auto, using(crate::proofs::IntegerSteps::no_number, crate::proofs::IntegerSteps::below_cap, crate::proofs::IntegerSteps::positive_past))]
 fn positive(digits: &[u8]) -> Option<Integer>
     ensures { IsFound result (option_map (λ n. pos n) (digits_number digits.now)) }
 {
@@ -33,7 +33,7 @@ fn positive(digits: &[u8]) -> Option<Integer>
 }
 
 // The negative of the number that digits write.
-#[tactic(auto, using(crate::proofs::IntegerSteps::no_number, crate::proofs::IntegerSteps::negative_fits, crate::proofs::IntegerSteps::negative_past))]
+#[tactic(auto, using(crate::proofs::IntegerSteps::no_number, crate::proofs::IntegerSteps::below_cap, crate::proofs::IntegerSteps::negative_past))]
 fn negative(digits: &[u8]) -> Option<Integer>
     ensures { IsFound result (option_map (λ n. neg_ℤ (pos n)) (digits_number digits.now)) }
 {

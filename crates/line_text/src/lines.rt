@@ -3,7 +3,7 @@ ghost use Rattle.std.specs.Prelude.{◌≡◌, ◌≢◌, ◌≤◌, ◌<◌, �
 ghost use Rattle.line_text.specs.Lines.{lines, without_return, HasNoEnd};
 
 // How many bytes stand before the first line end.
-#[tactic(auto, using(crate::proofs::LineSteps::free_none, crate::proofs::LineSteps::free_more, crate::proofs::LineSteps::free_all))]
+#[tactic(auto, using(crate::proofs::Fronts::front_none, crate::proofs::Fronts::front_more, crate::proofs::Fronts::front_all))]
 fn run_length(text: &[u8]) -> usize
     ensures within { result ≤ length text.now }
     ensures free { HasNoEnd (take result text.now) }
@@ -18,7 +18,7 @@ fn run_length(text: &[u8]) -> usize
 }
 
 // A line without one carriage return at its end.
-#[tactic(auto, using(crate::proofs::LineSteps::without_last, crate::proofs::LineSteps::without_none, crate::proofs::LineSteps::without_empty))]
+#[tactic(auto, using(crate::proofs::LineLaws::without_last, crate::proofs::LineLaws::without_none, crate::proofs::LineLaws::without_empty))]
 fn trimmed(line: &[u8]) -> &[u8]
     ensures { result.now ≡ without_return line.now }
 {
@@ -34,7 +34,7 @@ fn trimmed(line: &[u8]) -> &[u8]
 }
 
 /// The first line of a text and what stands after it; none where the text has no line.
-#[tactic(auto, using(crate::proofs::LineSteps::none))]
+#[tactic(auto, using(crate::proofs::LineLaws::none))]
 pub fn next_line(text: &[u8]) -> Option<(&[u8], &[u8])>
     ensures { MatchOption result (lines text.now ≡ []) (λ found. lines text.now ≡ found.0.now ∷ lines found.1.now) }
 {

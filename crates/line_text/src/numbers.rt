@@ -39,17 +39,16 @@ fn value_up_to(digits: &[u8], cap: u64) -> u64
 
 /// The number that one or more digits write, or `cap` where it is larger; none where there is no byte, or one that is no
 /// digit.
+#[tactic(auto, unfolding(crate::specs::Numbers::digits_number))]
 pub fn number_up_to(text: &[u8], cap: u64) -> Option<u64>
     requires { cap ≤ 2 ^ 60 }
     ensures { result ≡ option_map (λ n. min n cap) (digits_number text.now) }
 {
-    if text.is_empty() {
-        return None;
+    match text {
+        [] => None,
+        [_, ..] if is_digits(text) => Some(value_up_to(text, cap)),
+        [_, ..] => None,
     }
-    if !is_digits(text) {
-        return None;
-    }
-    Some(value_up_to(text, cap))
 }
 
 /// The number that one or more digits write, with a plus in front or none, or `cap` where it is larger; none where the word

@@ -11,7 +11,7 @@ pub fn is_blank_byte(byte: u8) -> bool
 }
 
 // How many blanks stand first.
-#[tactic(auto, using(crate::proofs::WordSteps::skip_blank, crate::proofs::WordSteps::blanks_all))]
+#[tactic(auto, using(crate::proofs::WordLaws::skip_blank, crate::proofs::WordLaws::blanks_all))]
 fn blanks(text: &[u8]) -> usize
     ensures within { result ≤ length text.now }
     ensures same { words (drop result text.now) ≡ words text.now }
@@ -26,7 +26,7 @@ fn blanks(text: &[u8]) -> usize
 }
 
 // How many bytes stand before the first blank.
-#[tactic(auto, using(crate::proofs::WordSteps::free_none, crate::proofs::WordSteps::free_more, crate::proofs::WordSteps::free_all))]
+#[tactic(auto, using(crate::proofs::Fronts::front_none, crate::proofs::Fronts::front_more, crate::proofs::Fronts::front_all))]
 fn word_length(text: &[u8]) -> usize
     ensures within { result ≤ length text.now }
     ensures free { HasNoBlank (take result text.now) }
@@ -41,7 +41,7 @@ fn word_length(text: &[u8]) -> usize
 }
 
 // The line from its first word on.
-#[tactic(auto, using(crate::proofs::WordSteps::rest_is, crate::proofs::WordSteps::rest_stops))]
+#[tactic(auto, using(std::proofs::lemmas::List::take_rest, crate::proofs::WordLaws::rest_stops))]
 fn without_blanks(text: &[u8]) -> &[u8]
     ensures same { words result.now ≡ words text.now }
     ensures stops { 0 < length result.now → is_blank (slice_index result.now 0) ≡ false }
@@ -50,7 +50,7 @@ fn without_blanks(text: &[u8]) -> &[u8]
 }
 
 /// The first word of a line and what stands behind it; none where the line has no word.
-#[tactic(auto, using(crate::proofs::WordSteps::rest_is, crate::proofs::WordSteps::no_words, crate::proofs::WordSteps::words_cut, crate::proofs::WordSteps::some_length))]
+#[tactic(auto, using(std::proofs::lemmas::List::take_rest, crate::proofs::WordLaws::no_words, crate::proofs::WordLaws::words_cut, crate::proofs::WordLaws::some_length))]
 pub fn next_word(text: &[u8]) -> Option<(&[u8], &[u8])>
     ensures { MatchOption result (words text.now ≡ [])
         (λ found. words text.now ≡ found.0.now ∷ words found.1.now) }

@@ -1,31 +1,57 @@
 -- Whole lines that stand in the parts go on to a matrix file.
-use Rattle.std.proofs.Common.{◌≡◌, ℕ, zero, suc, ◌+◌, ◌-◌, ◌*◌, ◌^◌, ◌≤◌, ℤ, pos, List, [], ◌∷◌, ◌++◌, length, codes, Ok, refl, sym, ap, subst, ◌∙◌, append_assoc, append-nil, arith}
+use Rattle.std.proofs.Common.{◌≡◌, ℕ, zero, suc, ◌+◌, ◌-◌, ◌*◌, ◌^◌, ◌<◌, ◌≤◌, Bool, true, false, cond, ℤ, pos, List, [], ◌∷◌, ◌++◌, length, codes, Ok, replicate, refl, sym, ap, subst, ◌∙◌, append_assoc, append-nil, arith, nat_eq}
 use mathlib.Core.Logic.{inr}
 use Rattle.std.specs.List.{AllByRecursion, flat_map}
-use Rattle.std.proofs.lemmas.Bool.{le-leb, lt-ltb}
-use Rattle.std.proofs.lemmas.List.{length-append}
-use Rattle.line_text.specs.Lines.{whole_lines, ended, text_of_lines, IsLine}
+use Rattle.std.proofs.lemmas.Bool.{le-leb, lt-ltb, eq-eqb}
+use Rattle.std.proofs.lemmas.List.{length-append, length-replicate}
+use Rattle.line_text.specs.Lines.{before_first_line, whole_lines, ended, text_of_lines, IsLine}
 use Rattle.line_text.specs.Words.{words, parts, not_empty}
 use Rattle.line_text.specs.Numbers.{digits_number, unsigned_number, signed_number}
 use Rattle.line_text.proofs.WholeLineLaws.{join_whole_lines, whole_written}
 use Rattle.mm_grammar.specs.Width.{Width, bound, most}
 use Rattle.mm_grammar.specs.Matrix.{Matrix}
 use Rattle.mm_grammar.specs.FileLines.{Line, file_lines, line_behind, lines_behind}
-use Rattle.mm_grammar.specs.Symmetry.{Symmetry, General, Symmetric, SkewSymmetric, symmetry_named}
-use Rattle.mm_grammar.specs.Parts.{Header, wanted, banner_of, banner_words, size_words, value_words}
+use Rattle.mm_grammar.specs.Symmetry.{Symmetry, General, Symmetric, SkewSymmetric}
+use Rattle.mm_grammar.specs.Parts.{Header, wanted, size_words, value_words}
 use Rattle.mm_grammar.specs.MatrixText.{HoldsValues, Opens, IsMatrixText, matrix_of}
-use Rattle.mm_grammar.specs.Place.{AtBanner, AtSize, AtValues}
+use Rattle.mm_grammar.specs.Place.{Place, AtBanner, AtSize, AtValues}
+use Rattle.mm_grammar.specs.Reading.{step}
 use Rattle.mm_grammar.specs.PlainText.{banner_line}
 use Rattle.mm_grammar.specs.MatrixFault.{Holds, LeadsTo}
 use Rattle.mm_grammar.specs.GoingOn.{EndsLine, GoesOn}
 use Rattle.mm_grammar.proofs.Limits.{some_value}
-use Rattle.mm_grammar.proofs.LineKinds.{banner_step, size_step}
-use Rattle.mm_grammar.proofs.PlainLaws.{banner_text, banner_long}
-use Rattle.mm_grammar.proofs.Steps.{leads_on, values_more}
-use Rattle.mm_grammar.proofs.WholeLines.{whole_more, ends_line}
+use Rattle.mm_grammar.proofs.PlainLaws.{banner_text, banner_long, is_banner}
+use Rattle.mm_grammar.proofs.Steps.{leads_on, opens_more, values_more, banner_step, size_step}
 use Rattle.mm_grammar.proofs.Written.{placed, lines_placed, text_line, written_fits}
 
 -- ---- the lines of a file that goes on
+
+in_front : (b : ℕ) (t : Bool) (ls rest : List (List ℕ)) → 0 < length ls → cond t ((b ∷ []) ∷ (ls ++ rest)) (before_first_line b (ls ++ rest)) ≡ cond t ((b ∷ []) ∷ ls) (before_first_line b ls) ++ rest
+in_front b true ls rest some = refl
+in_front b false [] rest some = absurd (omega arith)
+in_front b false (line ∷ ls) rest some = refl
+
+a_line : (b : ℕ) (t : Bool) (ls : List (List ℕ)) → 0 < length (cond t ((b ∷ []) ∷ ls) (before_first_line b ls))
+a_line b true ls = omega arith
+a_line b false [] = omega arith
+a_line b false (line ∷ ls) = omega arith
+
+whole_more : (front more : List ℕ) → EndsLine front → whole_lines (front ++ more) ≡ whole_lines front ++ whole_lines more
+unfolding whole_lines EndsLine
+whole_more [] more ends = refl
+whole_more (b ∷ []) more ends = rw (eq-eqb b 10 ends) refl
+whole_more (b ∷ c ∷ bs) more ends =
+    ap (λ (ls : List (List ℕ)). cond (nat_eq b 10) ((b ∷ []) ∷ ls) (before_first_line b ls)) (whole_more (c ∷ bs) more ends)
+    ∙ in_front b (nat_eq b 10) (whole_lines (c ∷ bs)) (whole_lines more) (a_line c (nat_eq c 10) (whole_lines bs))
+
+ends : (bs : List ℕ) → EndsLine (ended bs)
+unfolding EndsLine
+ends [] = refl
+ends (b ∷ []) = refl
+ends (b ∷ c ∷ bs) = ends (c ∷ bs)
+
+ends_line : (front line : List ℕ) → EndsLine (front ++ ended line)
+ends_line front line = subst EndsLine (append_assoc front line (10 ∷ [])) (ends (front ++ line))
 
 behind_more : (n k : ℕ) (xs ys : List (List ℕ)) → k ≡ n + length (flat_map (λ line. line) xs) → lines_behind n (xs ++ ys) ≡ lines_behind n xs ++ lines_behind k ys
 unfolding lines_behind
@@ -44,19 +70,7 @@ more_lines front texts ends all =
 
 -- ---- values of 0
 
-abbrev zero_texts : ℕ → List (List ℕ)
-zero_texts zero = []
-zero_texts (suc k) = codes "0" ∷ zero_texts k
-
-abbrev zeros : ℕ → List ℤ
-zeros zero = []
-zeros (suc k) = pos 0 ∷ zeros k
-
-zeros_long : (k : ℕ) → length (zeros k) ≡ k
-zeros_long zero = refl
-zeros_long (suc k) = ap (λ (n : ℕ). suc n) (zeros_long k)
-
-zero_lines : (k : ℕ) → AllByRecursion IsLine (zero_texts k)
+zero_lines : (k : ℕ) → AllByRecursion IsLine (replicate k (codes "0"))
 zero_lines zero = tt
 zero_lines (suc k) = (text_line (codes "0") refl, zero_lines k)
 
@@ -66,22 +80,10 @@ zero_read width General = rw (lt-ltb 0 (bound width) (some_value width)) refl
 zero_read width Symmetric = rw (lt-ltb 0 (bound width) (some_value width)) refl
 zero_read width SkewSymmetric = rw (lt-ltb 0 (bound width) (some_value width)) refl
 
-zeros_hold : (width : Width) (header : Header) (at k : ℕ) → at + 2 * k ≤ 2 ^ 30 → HoldsValues width header (placed at (zero_texts k)) (zeros k)
+zeros_hold : (width : Width) (header : Header) (at k : ℕ) → at + 2 * k ≤ 2 ^ 30 → HoldsValues width header (placed at (replicate k (codes "0"))) (replicate k (pos 0))
 zeros_hold width header at zero fits = refl
 zeros_hold width header at (suc k) fits =
-    inr (pos 0, zeros k, refl, record { fits = written_fits (codes "0") (at + 2) refl (omega arith) (omega arith); gives = zero_read width header.symmetry }, zeros_hold width header (at + 2) k (omega arith))
-
--- more lines after the size line
-opens_with : (width : Width) (before more : List Line) (header : Header) (body : List Line) → Opens width before header body → Opens width (before ++ more) header (body ++ more)
-opens_with width before more header body o = record {
-  banner = o.banner;
-  between = o.between;
-  size = o.size;
-  whole = ap (λ (ls : List Line). ls ++ more) o.whole ∙ ap (λ (ls : List Line). o.banner ∷ ls) (append_assoc o.between (o.size ∷ body) more);
-  is_banner = o.is_banner;
-  are_between = o.are_between;
-  is_size_line = o.is_size_line;
-}
+    inr (pos 0, replicate k (pos 0), refl, record { fits = written_fits (codes "0") (at + 2) refl (omega arith) (omega arith); gives = zero_read width header.symmetry }, zeros_hold width header (at + 2) k (omega arith))
 
 -- ---- from each place
 
@@ -92,18 +94,18 @@ values_go_on : (width : Width) (front : List ℕ) (header : Header) (stored : Li
 values_go_on width front header stored ends h few =
     let k : ℕ = wanted header - length stored in
     let some : length stored ≤ wanted header = h.count in
-    let a : length (stored ++ zeros k) ≡ length stored + length (zeros k) = length-append stored (zeros k) in
-    let b : length (zeros k) ≡ k = zeros_long k in
-    let more : List Line = placed (length front) (zero_texts k) in (
-      text_of_lines (zero_texts k),
-      matrix_of header (stored ++ zeros k),
+    let a : length (stored ++ replicate k (pos 0)) ≡ length stored + length (replicate k (pos 0)) = length-append stored (replicate k (pos 0)) in
+    let b : length (replicate k (pos 0)) ≡ k = length-replicate k (pos 0) in
+    let more : List Line = placed (length front) (replicate k (codes "0")) in (
+      text_of_lines (replicate k (codes "0")),
+      matrix_of header (stored ++ replicate k (pos 0)),
       record {
         header = header;
-        stored = stored ++ zeros k;
+        stored = stored ++ replicate k (pos 0);
         parts = record {
           body = h.body ++ more;
-          opens = subst (λ (ls : List Line). Opens width ls header (h.body ++ more)) (sym (more_lines front (zero_texts k) ends (zero_lines k))) (opens_with width (file_lines front) more header h.body h.opens);
-          holds = values_more width header h.body more stored (zeros k) h.holds (zeros_hold width header (length front) k few);
+          opens = subst (λ (ls : List Line). Opens width ls header (h.body ++ more)) (sym (more_lines front (replicate k (codes "0")) ends (zero_lines k))) (opens_more width (file_lines front) more header h.body h.opens);
+          holds = values_more width header h.body more stored (replicate k (pos 0)) h.holds (zeros_hold width header (length front) k few);
           count = omega arith;
         };
         matrix = refl;
@@ -111,8 +113,10 @@ values_go_on width front header stored ends h few =
     )
 
 -- a line more
-one_line : (front line : List ℕ) → EndsLine front → IsLine line → file_lines (front ++ ended line) ≡ file_lines front ++ record { text = line; upto = length front + length (ended line) } ∷ []
-one_line front line ends is = ap (λ (bs : List ℕ). file_lines (front ++ bs)) (sym (append-nil (ended line))) ∙ more_lines front (line ∷ []) ends (is, tt)
+line_taken : (width : Width) (front line : List ℕ) (place next : Place) → EndsLine front → IsLine line → LeadsTo width (file_lines front) place
+    → step width place (record { text = line; upto = length front + length (ended line) }) ≡ Ok next → LeadsTo width (file_lines (front ++ ended line)) next
+line_taken width front line place next ends is stand taken =
+    subst (λ (ls : List Line). LeadsTo width ls next) (sym (ap (λ (bs : List ℕ). file_lines (front ++ bs)) (sym (append-nil (ended line))) ∙ more_lines front (line ∷ []) ends (is, tt))) (leads_on width (file_lines front) place (record { text = line; upto = length front + length (ended line) }) next stand taken)
 
 with_line : (width : Width) (front line : List ℕ) → CanGoOn width (front ++ ended line) → CanGoOn width front
 with_line width front line c = (ended line ++ c.0, c.1, subst (λ (bs : List ℕ). IsMatrixText width bs c.1) (append_assoc front (ended line) c.0) c.2)
@@ -133,28 +137,20 @@ size_read width SkewSymmetric = rw (le-leb 0 (most width) (omega arith)) refl
 
 size_goes_on : (width : Width) (front : List ℕ) (kind : Symmetry) → EndsLine front → LeadsTo width (file_lines front) (AtSize kind) → length front + 4 ≤ 2 ^ 30 → CanGoOn width front
 size_goes_on width front kind ends stand few =
-    let line : Line = record { text = codes "0 0"; upto = length front + length (ended (codes "0 0")) } in
-    let taken = size_step width (empty kind) line (record { fits = written_fits (codes "0 0") (length front + 4) refl (omega arith) few; no_comment = refl; gives = size_read width kind }) in
-    let on : LeadsTo width (file_lines front ++ line ∷ []) (AtValues (empty kind) []) = leads_on width (file_lines front) (AtSize kind) line (AtValues (empty kind) []) stand taken in
-    let there : LeadsTo width (file_lines (front ++ ended (codes "0 0"))) (AtValues (empty kind) []) =
-    subst (λ (ls : List Line). LeadsTo width ls (AtValues (empty kind) [])) (sym (one_line front (codes "0 0") ends (text_line (codes "0 0") refl))) on in
-    let long : length (front ++ ended (codes "0 0")) ≡ length front + 4 = length-append front (ended (codes "0 0")) in
+    let line : List ℕ = codes "0 0" in
+    let taken = size_step width (empty kind) (record { text = line; upto = length front + 4 }) (record { fits = written_fits line (length front + 4) refl (omega arith) few; no_comment = refl; gives = size_read width kind }) in
+    let there : LeadsTo width (file_lines (front ++ ended line)) (AtValues (empty kind) []) = line_taken width front line (AtSize kind) (AtValues (empty kind) []) ends (text_line line refl) stand taken in
+    let long : length (front ++ ended line) ≡ length front + 4 = length-append front (ended line) in
     let none : wanted (empty kind) ≡ 0 = empty_wants kind in
-    with_line width front (codes "0 0") (values_go_on width (front ++ ended (codes "0 0")) (empty kind) [] (ends_line front (codes "0 0")) there (omega arith))
-
-banner_says : banner_of banner_line ≡ Ok General
-unfolding banner_line banner_words symmetry_named parts not_empty
-banner_says = refl
+    with_line width front line (values_go_on width (front ++ ended line) (empty kind) [] (ends_line front line) there (omega arith))
 
 banner_goes_on : (width : Width) (front : List ℕ) → EndsLine front → LeadsTo width (file_lines front) AtBanner → length front + 48 ≤ 2 ^ 30 → CanGoOn width front
 banner_goes_on width front ends stand few =
     let n : length banner_line ≡ 43 = banner_long in
     let e : length (ended banner_line) ≡ length banner_line + 1 = length-append banner_line (10 ∷ []) in
-    let line : Line = record { text = banner_line; upto = length front + length (ended banner_line) } in
-    let taken = banner_step width General line (record { fits = written_fits banner_line (length front + length (ended banner_line)) banner_text (omega arith) (omega arith); names = banner_says }) in
-    let on : LeadsTo width (file_lines front ++ line ∷ []) (AtSize General) = leads_on width (file_lines front) AtBanner line (AtSize General) stand taken in
-    let there : LeadsTo width (file_lines (front ++ ended banner_line)) (AtSize General) = subst (λ (ls : List Line). LeadsTo width ls (AtSize General)) (sym (one_line front banner_line ends (text_line banner_line banner_text))) on in
     let long : length (front ++ ended banner_line) ≡ length front + length (ended banner_line) = length-append front (ended banner_line) in
+    let taken = banner_step width General (record { text = banner_line; upto = length front + length (ended banner_line) }) (is_banner (length front + length (ended banner_line)) (omega arith)) in
+    let there : LeadsTo width (file_lines (front ++ ended banner_line)) (AtSize General) = line_taken width front banner_line AtBanner (AtSize General) ends (text_line banner_line banner_text) stand taken in
     with_line width front banner_line (size_goes_on width (front ++ ended banner_line) General (ends_line front banner_line) there (omega arith))
 
 pub goes_on : (width : Width) → GoesOn width

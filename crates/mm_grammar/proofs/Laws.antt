@@ -1,5 +1,5 @@
 -- The parts of a matrix file describe its format: all laws of formats hold of it.
-use Rattle.std.proofs.Common.{◌≡◌, ℕ, suc, ◌+◌, ◌≤◌, Bool, true, false, cond, ℤ, List, [], ◌∷◌, ◌++◌, length, Result, Ok, Err, refl, sym, ap, subst, ◌∙◌, append_assoc, append-nil, arith, nat_eq}
+use Rattle.std.proofs.Common.{◌≡◌, ℕ, suc, ◌+◌, ◌≤◌, Bool, true, false, cond, ℤ, List, [], ◌∷◌, ◌++◌, length, Ok, Err, refl, sym, ap, subst, ◌∙◌, append_assoc, append-nil, arith, nat_eq}
 use mathlib.Core.Logic.{inl, inr}
 use Rattle.std.specs.List.{AllByRecursion}
 use Rattle.std.proofs.lemmas.Bool.{eqb-true}
@@ -11,7 +11,7 @@ use Rattle.line_text.proofs.FormatReadings as readings
 use Rattle.line_text.proofs.FormatLaws as laws
 use Rattle.mm_grammar.specs.Width.{Width}
 use Rattle.mm_grammar.specs.Matrix.{Matrix}
-use Rattle.mm_grammar.specs.Faults.{Fault, TooFew}
+use Rattle.mm_grammar.specs.Faults.{TooFew}
 use Rattle.mm_grammar.specs.FileLines.{Line}
 use Rattle.mm_grammar.specs.Symmetry.{Symmetry}
 use Rattle.mm_grammar.specs.Parts.{Header, wanted}
@@ -20,8 +20,7 @@ use Rattle.mm_grammar.specs.Place.{Place, AtBanner, AtSize, AtValues}
 use Rattle.mm_grammar.specs.FaultTable.{matrix_faults}
 use Rattle.mm_grammar.specs.MatrixFault.{Holds, LeadsTo, IsReading, IsDecided, IsFirst}
 use Rattle.mm_grammar.specs.Reading.{at_end, matrix_format, read_on}
-use Rattle.mm_grammar.proofs.Steps.{leads_on}
-use Rattle.mm_grammar.proofs.LineKinds.{banner_step, between_step, size_step, blank_step, value_step, stored_end}
+use Rattle.mm_grammar.proofs.Steps.{ok_is, leads_on, banner_step, between_step, size_step, blank_step, value_step, stored_end}
 use Rattle.mm_grammar.proofs.Table.{line_fails, end_fails}
 
 -- ---- lines that stand in the parts are taken
@@ -55,7 +54,7 @@ opened width all header stored body o holds most =
           (AtValues header [], size_step width header o.size o.is_size_line, values width header body [] stored (suc (2 + length o.between)) holds (omega arith)),
     )
 
-leads : (width : Width) (before : List Line) (place : Place) → LeadsTo width before place → meaning.Leads (matrix_format width) before place
+pub leads : (width : Width) (before : List Line) (place : Place) → LeadsTo width before place → meaning.Leads (matrix_format width) before place
 leads width before AtBanner stand = subst (λ (ls : List Line). meaning.Leads (matrix_format width) ls AtBanner) (sym stand) refl
 leads width before (AtSize kind) b =
     subst (λ (ls : List Line). meaning.Leads (matrix_format width) ls (AtSize kind)) (sym b.whole) (AtSize kind, banner_step width kind b.banner b.is_banner, between width kind b.between 2 b.are_between)
@@ -63,19 +62,13 @@ leads width before (AtValues header stored) h = opened width before header store
 
 -- ---- the end
 
-abbrev given : Matrix → Result Matrix Fault
-given m = Ok m
-
-matrix_is : (m n : Matrix) → given m ≡ given n → n ≡ m
-matrix_is m n e = let same : m ≡ n = cc in sym same
-
 all_stored : (width : Width) (all : List Line) (header : Header) (stored : List ℤ) (m : Matrix) → Holds width all header stored → (t : Bool) → nat_eq (length stored) (wanted header) ≡ t
     → cond t (Ok (matrix_of header stored)) (Err (TooFew (length stored) (wanted header))) ≡ Ok m → IsAccepted width all m
 all_stored width all header stored m h true t e = record {
   header = header;
   stored = stored;
   parts = record { body = h.body; opens = h.opens; holds = h.holds; count = eqb-true _ _ t };
-  matrix = matrix_is (matrix_of header stored) m e;
+  matrix = sym (ok_is (matrix_of header stored) m e);
 }
 all_stored width all header stored m h false t e = absurd cc
 

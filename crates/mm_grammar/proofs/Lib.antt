@@ -1,7 +1,5 @@
 pub mod Rows
 pub mod Steps
-pub mod LineKinds
-pub mod WholeLines
 pub mod GoingOn
 pub mod Laws
 pub mod Written
@@ -10,7 +8,4 @@ pub mod Limits
 pub mod Streaming
 pub mod Table
 pub mod Stages
-pub mod Triangles
 pub mod Ranges
-pub mod Elements
-pub mod Mirrors

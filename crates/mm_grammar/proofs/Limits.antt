@@ -1,47 +1,34 @@
 -- The matrix of an accepted text keeps the limits: its size, the number of its values and their range.
-use Rattle.std.proofs.Common.{◌≡◌, ℕ, zero, suc, ◌+◌, ◌*◌, ◌^◌, ◌<◌, Bool, true, false, cond, ℤ, pos, negsuc, neg_ℤ, List, [], ◌∷◌, ◌++◌, map, length, get_or, Option, Some, None, Result, Ok, Err, refl, sym, ap, subst, ◌∙◌, arith, nat_le, nat_lt, nat_eq}
+use Rattle.std.proofs.Common.{◌≡◌, ℕ, zero, suc, ◌+◌, ◌*◌, ◌^◌, ◌<◌, Bool, true, false, cond, ℤ, pos, negsuc, neg_ℤ, List, [], ◌∷◌, ◌++◌, map, length, get_or, Option, Some, None, Ok, Err, refl, sym, ap, subst, ◌∙◌, arith, nat_le, nat_lt, nat_eq}
 use mathlib.Core.Logic.{inl, inr}
 use Rattle.std.specs.List.{AllByRecursion, flat_map}
 use Rattle.std.proofs.lemmas.Bool.{eqb-true, leb-true, ltb-true, lt-ltb, and_parts}
-use Rattle.std.proofs.lemmas.List.{length-append}
+use Rattle.std.proofs.lemmas.List.{length-append, length-map}
 use Rattle.line_text.specs.Words.{words}
-use Rattle.line_text.specs.Numbers.{unsigned_number, signed_number}
+use Rattle.line_text.specs.Numbers.{signed_number}
+use Rattle.line_text.proofs.Fronts.{all_append}
 use Rattle.mm_grammar.specs.Width.{Width, width32, width64, bound, most, is_in_range, has_negative}
 use Rattle.mm_grammar.specs.Matrix.{Matrix, IsMatrix}
-use Rattle.mm_grammar.specs.Faults.{Fault, Size, Range}
+use Rattle.mm_grammar.specs.Faults.{Range}
 use Rattle.mm_grammar.specs.FileLines.{Line}
 use Rattle.mm_grammar.specs.Symmetry.{Symmetry, General, Symmetric, SkewSymmetric}
 use Rattle.mm_grammar.specs.Expansion.{below, by_columns, stored_at, symmetric_element, skew_element, expanded}
-use Rattle.mm_grammar.specs.Parts.{Header, wanted, is_square, is_size, header_of, size_words, may_store, ranged, value_words}
+use Rattle.mm_grammar.specs.Parts.{Header, wanted, is_square, is_size, may_store, ranged, value_words}
 use Rattle.mm_grammar.specs.MatrixText.{HoldsValues, IsAccepted, matrix_of}
+use Rattle.mm_grammar.proofs.Steps.{ok_is, size_given}
 
 -- each width has the value 0
 pub some_value : (width : Width) → 0 < bound width
 some_value width32 = omega arith
 some_value width64 = omega arith
 
-abbrev taken : {A : Type 0} → A → Result A Fault
-taken x = Ok x
-
--- what a size line and a value line have passed
-passed : {A : Type 0} (test : A → Bool) (x y : A) (fault : Fault) (t : Bool) → test x ≡ t → cond t (taken x) (Err fault) ≡ taken y → test y ≡ true
-passed {A} test x y fault true t e = let same : x ≡ y = cc in subst (λ (z : A). test z ≡ true) same t
-passed test x y fault false t e = absurd cc
-
-header_passed : (width : Width) (kind : Symmetry) (m n : Option ℕ) (header : Header) → header_of width kind m n ≡ Ok header → is_size width header ≡ true
-header_passed width kind (Some m) (Some n) header e = passed (is_size width) (record { symmetry = kind; rows = m; columns = n }) header Size _ refl e
-header_passed width kind (Some m) None header e = absurd cc
-header_passed width kind None n header e = absurd cc
-
-size_passed : (width : Width) (kind : Symmetry) (ws : List (List ℕ)) (header : Header) → size_words width kind ws ≡ Ok header → is_size width header ≡ true
-unfolding size_words
-size_passed width kind [] header e = absurd cc
-size_passed width kind (m ∷ []) header e = absurd cc
-size_passed width kind (m ∷ n ∷ []) header e = header_passed width kind (unsigned_number m) (unsigned_number n) header e
-size_passed width kind (m ∷ n ∷ w ∷ ws) header e = absurd cc
+-- what a value line has passed
+kept : (width : Width) (kind : Symmetry) (z v : ℤ) (t : Bool) → may_store width kind z ≡ t → cond t (Ok z) (Err Range) ≡ Ok v → may_store width kind v ≡ true
+kept width kind z v true is e = subst (λ (x : ℤ). may_store width kind x ≡ true) (ok_is z v e) is
+kept width kind z v false is e = absurd cc
 
 number_passed : (width : Width) (kind : Symmetry) (o : Option ℤ) (v : ℤ) → ranged width kind o ≡ Ok v → may_store width kind v ≡ true
-number_passed width kind (Some z) v e = passed (may_store width kind) z v Range _ refl e
+number_passed width kind (Some z) v e = kept width kind z v _ refl e
 number_passed width kind None v e = absurd cc
 
 pub value_passed : (width : Width) (kind : Symmetry) (ws : List (List ℕ)) (v : ℤ) → value_words width kind ws ≡ Ok v → may_store width kind v ≡ true
@@ -51,7 +38,7 @@ value_passed width kind (w ∷ []) v e = number_passed width kind (signed_number
 value_passed width kind (w ∷ x ∷ ws) v e = absurd cc
 
 -- every stored value may be stored
-pub stored_fit : (width : Width) (header : Header) (lines : List Line) (stored : List ℤ) → HoldsValues width header lines stored → AllByRecursion (λ v. may_store width header.symmetry v ≡ true) stored
+stored_fit : (width : Width) (header : Header) (lines : List Line) (stored : List ℤ) → HoldsValues width header lines stored → AllByRecursion (λ v. may_store width header.symmetry v ≡ true) stored
 stored_fit width header [] stored e = subst (λ (vs : List ℤ). AllByRecursion (λ v. may_store width header.symmetry v ≡ true) vs) (sym e) tt
 stored_fit width header (line ∷ lines) stored (inl blank) = stored_fit width header lines stored blank.1
 stored_fit width header (line ∷ lines) stored (inr value) =
@@ -63,19 +50,15 @@ below_long : (n : ℕ) → length (below n) ≡ n
 below_long zero = refl
 below_long (suc n) = let h : length (below n) ≡ n = below_long n in let a : length (below n ++ n ∷ []) ≡ length (below n) + 1 = length-append (below n) (n ∷ []) in omega arith
 
-map_long : (f : ℕ → ℤ) (is : List ℕ) → length (map f is) ≡ length is
-map_long f [] = refl
-map_long f (i ∷ is) = ap (λ (n : ℕ). suc n) (map_long f is)
-
 columns_long : (element : ℕ → ℕ → ℤ) (is js : List ℕ) → length (flat_map (λ j. map (λ i. element i j) is) js) ≡ length js * length is
 columns_long element is [] = omega arith
 columns_long element is (j ∷ js) =
     let a : length (map (λ i. element i j) is ++ flat_map (λ k. map (λ i. element i k) is) js) ≡ length (map (λ i. element i j) is) + length (flat_map (λ k. map (λ i. element i k) is) js) = length-append (map (λ i. element i j) is) (flat_map (λ k. map (λ i. element i k) is) js) in
-    let b : length (map (λ i. element i j) is) ≡ length is = map_long (λ i. element i j) is in
+    let b : length (map (λ i. element i j) is) ≡ length is = length-map is (λ i. element i j) in
     let c : length (flat_map (λ k. map (λ i. element i k) is) js) ≡ length js * length is = columns_long element is js in
     omega arith
 
-pub by_columns_long : (rows columns : ℕ) (element : ℕ → ℕ → ℤ) → length (by_columns rows columns element) ≡ rows * columns
+by_columns_long : (rows columns : ℕ) (element : ℕ → ℕ → ℤ) → length (by_columns rows columns element) ≡ rows * columns
 by_columns_long rows columns element =
     let a : length (by_columns rows columns element) ≡ length (below columns) * length (below rows) = columns_long element (below rows) (below columns) in
     a ∙ rw (below_long rows, below_long columns) (omega arith)
@@ -84,10 +67,6 @@ by_columns_long rows columns element =
 all_map : (P : ℤ → Type 0) (f : ℕ → ℤ) (is : List ℕ) → ((i : ℕ) → P (f i)) → AllByRecursion P (map f is)
 all_map P f [] each = tt
 all_map P f (i ∷ is) each = (each i, all_map P f is each)
-
-all_append : (P : ℤ → Type 0) (xs ys : List ℤ) → AllByRecursion P xs → AllByRecursion P ys → AllByRecursion P (xs ++ ys)
-all_append P [] ys a b = b
-all_append P (x ∷ xs) ys a b = (a.0, all_append P xs ys a.1 b)
 
 all_columns : (P : ℤ → Type 0) (element : ℕ → ℕ → ℤ) (is js : List ℕ) → ((i j : ℕ) → P (element i j)) → AllByRecursion P (flat_map (λ j. map (λ i. element i j) is) js)
 all_columns P element is [] each = tt
@@ -160,5 +139,5 @@ pub accepted_fits : (width : Width) (lines : List Line) (m : Matrix) → IsAccep
 accepted_fits width lines m a =
     subst (λ (n : Matrix). IsMatrix width n) (sym a.matrix)
     (matrix_fits width a.header a.stored (some_value width)
-    (size_passed width a.header.symmetry (words a.parts.opens.size.text) a.header a.parts.opens.is_size_line.gives)
+    (size_given width a.header.symmetry (words a.parts.opens.size.text) a.header a.parts.opens.is_size_line.gives).1
     (stored_fit width a.header a.parts.body a.stored a.parts.holds) a.parts.count)

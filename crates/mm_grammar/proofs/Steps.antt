@@ -1,8 +1,7 @@
--- What a line that is taken makes of the lines before it.
-use Rattle.std.proofs.Common.{◌≡◌, ◌≢◌, ℕ, ◌+◌, ◌≤◌, Bool, true, false, cond, ℤ, List, [], ◌∷◌, ◌++◌, ◌||◌, length, Option, Some, None, Result, Ok, Err, refl, sym, ap, subst, ◌∙◌, append_assoc, append-nil, arith, nat_eq}
+-- What a line that is taken makes of the lines before it, and which lines are taken.
+use Rattle.std.proofs.Common.{◌≡◌, ◌≢◌, ℕ, ◌+◌, ◌<◌, ◌≤◌, Bool, true, false, cond, ℤ, List, [], ◌∷◌, ◌++◌, ◌||◌, length, Option, Some, None, Result, Ok, Err, refl, sym, ap, subst, ◌∙◌, append_assoc, append-nil, arith, nat_eq}
 use mathlib.Core.Logic.{inl, inr}
-use Rattle.std.specs.List.{AllByRecursion}
-use Rattle.std.proofs.lemmas.Bool.{eqb-false, or_parts}
+use Rattle.std.proofs.lemmas.Bool.{eqb-false, ne_eqb, eq-eqb, or_parts}
 use Rattle.std.proofs.lemmas.List.{length-append}
 use Rattle.line_text.specs.Words.{words}
 use Rattle.line_text.specs.Numbers.{unsigned_number}
@@ -10,47 +9,38 @@ use Rattle.mm_grammar.specs.Width.{Width}
 use Rattle.mm_grammar.specs.Faults.{Fault, Size, TooMany}
 use Rattle.mm_grammar.specs.FileLines.{Line, line_fault}
 use Rattle.mm_grammar.specs.Symmetry.{Symmetry}
-use Rattle.mm_grammar.specs.Parts.{Header, wanted, no_words, is_blank_line, is_comment, banner_of, header_of, size_words, value_words}
-use Rattle.mm_grammar.specs.MatrixText.{IsBannerLine, IsBetweenLine, HoldsValues, Opens}
+use Rattle.mm_grammar.specs.Parts.{Header, wanted, no_words, is_blank_line, is_comment, banner_of, is_size, header_of, size_words, value_words}
+use Rattle.mm_grammar.specs.MatrixText.{IsBannerLine, IsBetweenLine, IsSizeLine, IsValueLine, IsBlankLine, HoldsValues, Opens, matrix_of}
 use Rattle.mm_grammar.specs.Place.{Place, AtBanner, AtSize, AtValues}
-use Rattle.line_text.specs.FaultTables.{unless_fault}
-use Rattle.mm_grammar.specs.Reading.{then_at, step}
+use Rattle.line_text.proofs.Fronts.{all_append}
+pub use Rattle.line_text.proofs.Answers.{ok_is, unless_ok}
+use Rattle.mm_grammar.specs.Reading.{then_at, step, at_end}
 use Rattle.mm_grammar.specs.MatrixFault.{Begins, Holds, LeadsTo}
 
 -- what a step that was taken says
-pub unless_ok : (o : Option Fault) (r : Result Place Fault) (p : Place) → unless_fault o r ≡ Ok p → (o ≡ None) × (r ≡ Ok p)
-unless_ok (Some fault) r p e = absurd cc
-unless_ok None r p e = (refl, e)
-
 pub then_ok : {X : Type 0} (f : X → Place) (r : Result X Fault) (p : Place) → then_at f r ≡ Ok p → (x : X) × (r ≡ Ok x) × (p ≡ f x)
-then_ok f (Ok x) p e = (x, refl, (let q : f x ≡ p = cc in sym q))
+then_ok f (Ok x) p e = (x, refl, sym (ok_is (f x) p e))
 then_ok f (Err fault) p e = absurd cc
 
-abbrev taken : {A : Type 0} → A → Result A Fault
-taken x = Ok x
+-- a size line keeps the banner's symmetry and the limits
+chosen : (width : Width) (t : Bool) (given header : Header) → is_size width given ≡ t → cond t (Ok given) (Err Size) ≡ Ok header → (header.symmetry ≡ given.symmetry) × (is_size width header ≡ true)
+chosen width true given header is e = subst (λ (h : Header). (h.symmetry ≡ given.symmetry) × (is_size width h ≡ true)) (ok_is given header e) (refl, is)
+chosen width false given header is e = absurd cc
 
-ok_is : (x y : Header) → taken x ≡ taken y → x ≡ y
-ok_is x y e = cc
+header_given : (width : Width) (kind : Symmetry) (m n : Option ℕ) (header : Header) → header_of width kind m n ≡ Ok header → (header.symmetry ≡ kind) × (is_size width header ≡ true)
+header_given width kind (Some m) (Some n) header e = chosen width _ (record { symmetry = kind; rows = m; columns = n }) header refl e
+header_given width kind (Some m) None header e = absurd cc
+header_given width kind None n header e = absurd cc
 
-place_is : (x y : Place) → taken x ≡ taken y → y ≡ x
-place_is x y e = let q : x ≡ y = cc in sym q
-
--- a size line keeps the banner's symmetry
-chosen : (b : Bool) (given header : Header) → cond b (Ok given) (Err Size) ≡ Ok header → header.symmetry ≡ given.symmetry
-chosen true given header e = ap (λ (h : Header). h.symmetry) (sym (ok_is given header e))
-chosen false given header e = absurd cc
-
-header_kind : (width : Width) (kind : Symmetry) (m n : Option ℕ) (header : Header) → header_of width kind m n ≡ Ok header → header.symmetry ≡ kind
-header_kind width kind (Some m) (Some n) header e = chosen _ (record { symmetry = kind; rows = m; columns = n }) header e
-header_kind width kind (Some m) None header e = absurd cc
-header_kind width kind None n header e = absurd cc
+pub size_given : (width : Width) (kind : Symmetry) (ws : List (List ℕ)) (header : Header) → size_words width kind ws ≡ Ok header → (header.symmetry ≡ kind) × (is_size width header ≡ true)
+unfolding size_words
+size_given width kind [] header e = absurd cc
+size_given width kind (m ∷ []) header e = absurd cc
+size_given width kind (m ∷ n ∷ []) header e = header_given width kind (unsigned_number m) (unsigned_number n) header e
+size_given width kind (m ∷ n ∷ w ∷ ws) header e = absurd cc
 
 pub size_kind : (width : Width) (kind : Symmetry) (ws : List (List ℕ)) (header : Header) → size_words width kind ws ≡ Ok header → header.symmetry ≡ kind
-unfolding size_words
-size_kind width kind [] header e = absurd cc
-size_kind width kind (m ∷ []) header e = absurd cc
-size_kind width kind (m ∷ n ∷ []) header e = header_kind width kind (unsigned_number m) (unsigned_number n) header e
-size_kind width kind (m ∷ n ∷ w ∷ ws) header e = absurd cc
+size_kind width kind ws header e = (size_given width kind ws header e).0
 
 -- a line that gives a size, or a value, isn't blank
 pub size_not_blank : (width : Width) (kind : Symmetry) (ws : List (List ℕ)) (header : Header) → size_words width kind ws ≡ Ok header → no_words ws ≡ false
@@ -63,11 +53,7 @@ unfolding value_words
 value_not_blank width kind [] v e = absurd cc
 value_not_blank width kind (w ∷ ws) v e = refl
 
--- lines between, and lines of values, one behind another
-pub between_more : (lines : List Line) (line : Line) → AllByRecursion IsBetweenLine lines → IsBetweenLine line → AllByRecursion IsBetweenLine (lines ++ line ∷ [])
-between_more [] line all is = (is, tt)
-between_more (first ∷ lines) line all is = (all.0, between_more lines line all.1 is)
-
+-- lines of values, one behind another
 pub values_more : (width : Width) (header : Header) (lines more : List Line) (vs ws : List ℤ) → HoldsValues width header lines vs → HoldsValues width header more ws → HoldsValues width header (lines ++ more) (vs ++ ws)
 values_more width header [] more vs ws first then = subst (λ (us : List ℤ). HoldsValues width header more (us ++ ws)) (sym first) then
 values_more width header (line ∷ lines) more vs ws (inl blank) then = inl (blank.0, values_more width header lines more vs ws blank.1 then)
@@ -87,13 +73,13 @@ from_banner width before line next none e =
 from_size : (width : Width) (before : List Line) (kind : Symmetry) (line : Line) (next : Place) → Begins before kind → (t : Bool) → (is_comment line.text || is_blank_line line.text) ≡ t
     → line_fault (is_comment line.text) line ≡ None → cond t (Ok (AtSize kind)) (then_at (λ header. AtValues header []) (size_words width kind (words line.text))) ≡ Ok next → LeadsTo width (before ++ line ∷ []) next
 from_size width before kind line next b true t fits e =
-    subst (λ (place : Place). LeadsTo width (before ++ line ∷ []) place) (sym (place_is (AtSize kind) next e))
+    subst (λ (place : Place). LeadsTo width (before ++ line ∷ []) place) (ok_is (AtSize kind) next e)
     (record {
       banner = b.banner;
       between = b.between ++ line ∷ [];
       whole = ap (λ (ls : List Line). ls ++ line ∷ []) b.whole;
       is_banner = b.is_banner;
-      are_between = between_more b.between line b.are_between (record { fits = fits; says_nothing = t });
+      are_between = all_append IsBetweenLine b.between (line ∷ []) b.are_between (record { fits = fits; says_nothing = t }, tt);
     })
 from_size width before kind line next b false t fits e =
     let q = then_ok (λ (header : Header). AtValues header []) (size_words width kind (words line.text)) next e in
@@ -120,12 +106,12 @@ from_size width before kind line next b false t fits e =
     })
 
 -- lines behind the size line
-opens_more : (width : Width) (before : List Line) (header : Header) (body : List Line) (line : Line) → Opens width before header body → Opens width (before ++ line ∷ []) header (body ++ line ∷ [])
-opens_more width before header body line o = record {
+pub opens_more : (width : Width) (before more : List Line) (header : Header) (body : List Line) → Opens width before header body → Opens width (before ++ more) header (body ++ more)
+opens_more width before more header body o = record {
   banner = o.banner;
   between = o.between;
   size = o.size;
-  whole = ap (λ (ls : List Line). ls ++ line ∷ []) o.whole ∙ ap (λ (ls : List Line). o.banner ∷ ls) (append_assoc o.between (o.size ∷ body) (line ∷ []));
+  whole = ap (λ (ls : List Line). ls ++ more) o.whole ∙ ap (λ (ls : List Line). o.banner ∷ ls) (append_assoc o.between (o.size ∷ body) more);
   is_banner = o.is_banner;
   are_between = o.are_between;
   is_size_line = o.is_size_line;
@@ -135,7 +121,7 @@ holds_more : (width : Width) (before : List Line) (header : Header) (stored more
     → Holds width (before ++ line ∷ []) header (stored ++ more)
 holds_more width before header stored more line h then count = record {
   body = h.body ++ line ∷ [];
-  opens = opens_more width before header h.body line h.opens;
+  opens = opens_more width before (line ∷ []) header h.body h.opens;
   holds = values_more width header h.body (line ∷ []) stored more h.holds then;
   count = count;
 }
@@ -157,7 +143,7 @@ from_values : (width : Width) (before : List Line) (header : Header) (stored : L
     → LeadsTo width (before ++ line ∷ []) next
 from_values width before header stored line next h fits true t e =
     let is : LeadsTo width (before ++ line ∷ []) (AtValues header (stored ++ [])) = holds_more width before header stored [] line h (inl (record { fits = fits; blank = t }, refl)) (rw append-nil h.count) in
-    let same : AtValues header (stored ++ []) ≡ next = ap (λ (vs : List ℤ). AtValues header vs) (append-nil stored) ∙ sym (place_is (AtValues header stored) next e) in
+    let same : AtValues header (stored ++ []) ≡ next = ap (λ (vs : List ℤ). AtValues header vs) (append-nil stored) ∙ ok_is (AtValues header stored) next e in
     subst (λ (place : Place). LeadsTo width (before ++ line ∷ []) place) same is
 from_values width before header stored line next h fits false t e = from_value width before header stored line next h fits _ refl e
 
@@ -167,3 +153,35 @@ unfolding step
 leads_on width before AtBanner line next stand e = from_banner width before line next stand e
 leads_on width before (AtSize kind) line next stand e = let p = unless_ok _ _ next e in from_size width before kind line next stand _ refl p.0 p.1
 leads_on width before (AtValues header stored) line next stand e = let p = unless_ok _ _ next e in from_values width before header stored line next stand p.0 _ refl p.1
+
+-- ---- each kind of line is taken at its place
+
+pub banner_step : (width : Width) (kind : Symmetry) (line : Line) → IsBannerLine kind line → step width AtBanner line ≡ Ok (AtSize kind)
+unfolding step
+banner_step width kind line is = rw (is.fits, is.names) refl
+
+pub between_step : (width : Width) (kind : Symmetry) (line : Line) → IsBetweenLine line → step width (AtSize kind) line ≡ Ok (AtSize kind)
+unfolding step
+between_step width kind line is = rw (is.fits, is.says_nothing) refl
+
+pub size_step : (width : Width) (header : Header) (line : Line) → IsSizeLine width header line → step width (AtSize header.symmetry) line ≡ Ok (AtValues header [])
+unfolding step
+size_step width header line is =
+    let words_there : is_blank_line line.text ≡ false = size_not_blank width header.symmetry (words line.text) header is.gives in
+    rw (is.no_comment, is.fits, words_there, is.gives) refl
+
+pub blank_step : (width : Width) (header : Header) (stored : List ℤ) (line : Line) → IsBlankLine line → step width (AtValues header stored) line ≡ Ok (AtValues header stored)
+unfolding step
+blank_step width header stored line is = rw (is.fits, is.blank) refl
+
+pub value_step : (width : Width) (header : Header) (stored : List ℤ) (v : ℤ) (line : Line) → IsValueLine width header v line → length stored < wanted header → step width (AtValues header stored) line ≡ Ok (AtValues header (stored ++ v ∷ []))
+unfolding step
+value_step width header stored v line is less =
+    let words_there : is_blank_line line.text ≡ false = value_not_blank width header.symmetry (words line.text) v is.gives in
+    let other : nat_eq (length stored) (wanted header) ≡ false = ne_eqb _ _ (λ same. omega (arith, same)) in
+    rw (is.fits, words_there, other, is.gives) refl
+
+-- and the end, where all values are there
+pub stored_end : (header : Header) (stored : List ℤ) → length stored ≡ wanted header → at_end (AtValues header stored) ≡ Ok (matrix_of header stored)
+unfolding at_end
+stored_end header stored e = rw (eq-eqb _ _ e) refl

@@ -1,25 +1,21 @@
 -- Lines that are written: digits, and their places in a file.
-use Rattle.std.proofs.Common.{◌≡◌, ◌≢◌, ℕ, suc, ◌+◌, ◌^◌, ◌<◌, ◌≤◌, true, false, ℤ, pos, negsuc, List, [], ◌∷◌, ◌++◌, map, length, None, refl, ap, subst, ◌∙◌, arith, rules, nat_le, nat_lt}
+use Rattle.std.proofs.Common.{◌≡◌, ◌≢◌, ℕ, suc, ◌+◌, ◌^◌, ◌<◌, ◌≤◌, true, false, ℤ, pos, negsuc, List, [], ◌∷◌, ◌++◌, map, length, None, refl, ap, subst, ◌∙◌, arith, nat_le, nat_lt}
 use lib.Signed.{mag}
 use Rattle.std.specs.List.{AllByRecursion, list_all}
 use Rattle.std.specs.Fmt.{decimal, signed_decimal}
 use Rattle.std.specs.Str.{all_ascii_digits}
-use Rattle.std.specs.Str.Parse.{digits_value}
 use Rattle.std.proofs.lemmas.Fmt.{digits_decimal, decimal_nonempty}
-use Rattle.std.proofs.lemmas.Str.Parse.{IsNumeralModel, numerals_by_value}
 use Rattle.std.proofs.lemmas.Bool.{ne_eqb, leb-true, le-leb, le-ltb, and_parts}
-use Rattle.line_text.specs.Lines.{without_end, without_return, ended, IsLine}
+use Rattle.line_text.specs.Lines.{without_end, without_return, ended, text_of_lines, IsLine}
 use Rattle.line_text.specs.Words.{is_blank, IsWord}
+use Rattle.line_text.proofs.NumberLaws.{own}
 use Rattle.line_text.proofs.LineLaws.{without_return_none}
-use Rattle.line_text.proofs.WholeLineLaws.{without_end_ended}
-use Rattle.mm_grammar.specs.FileLines.{Line, lines_behind, is_text_byte, line_fault}
+use Rattle.line_text.proofs.WholeLineLaws.{no_end, without_end_run, whole_written}
+use Rattle.mm_grammar.specs.FileLines.{Line, file_lines, lines_behind, is_text_byte, line_fault}
 
 -- digits alone
 abbrev pub AreDigits : List ℕ → Type 0
 AreDigits ds = AllByRecursion (λ b. (48 ≤ b) × (b ≤ 57)) ds
-
-own : IsNumeralModel (λ ds. all_ascii_digits ds ≡ true) (digits_value 10)
-own = numerals_by_value _ (search rules)
 
 are_digits : (ds : List ℕ) → all_ascii_digits ds ≡ true → AreDigits ds
 are_digits [] all = tt
@@ -64,12 +60,12 @@ signed_word (pos n) fits = decimal_word n (omega arith)
 signed_word (negsuc n) fits = (refl, no_blanks (decimal (suc n)) (decimal_digits (suc n) (omega arith)))
 
 -- text alone is no line end
-no_end : (b : ℕ) → is_text_byte b ≡ true → (b ≢ 10) × (b ≢ 13)
-no_end b is = ((λ e. let h : is_text_byte 10 ≡ true = subst (λ (c : ℕ). is_text_byte c ≡ true) e is in absurd cc), (λ e. let h : is_text_byte 13 ≡ true = subst (λ (c : ℕ). is_text_byte c ≡ true) e is in absurd cc))
+no_line_end : (b : ℕ) → is_text_byte b ≡ true → (b ≢ 10) × (b ≢ 13)
+no_line_end b is = ((λ e. let h : is_text_byte 10 ≡ true = subst (λ (c : ℕ). is_text_byte c ≡ true) e is in absurd cc), (λ e. let h : is_text_byte 13 ≡ true = subst (λ (c : ℕ). is_text_byte c ≡ true) e is in absurd cc))
 
 pub text_line : (line : List ℕ) → list_all is_text_byte line ≡ true → IsLine line
 text_line [] is = tt
-text_line (b ∷ bs) is = let p = and_parts (is_text_byte b) (list_all is_text_byte bs) is in (no_end b p.0, text_line bs p.1)
+text_line (b ∷ bs) is = let p = and_parts (is_text_byte b) (list_all is_text_byte bs) is in (no_line_end b p.0, text_line bs p.1)
 
 pub text_append : (a b : List ℕ) → list_all is_text_byte a ≡ true → list_all is_text_byte b ≡ true → list_all is_text_byte (a ++ b) ≡ true
 text_append [] b x y = y
@@ -84,8 +80,12 @@ pub lines_placed : (at : ℕ) (lines : List (List ℕ)) → AllByRecursion IsLin
 unfolding lines_behind
 lines_placed at [] all = refl
 lines_placed at (line ∷ lines) all =
-    let bare : without_return (without_end (ended line)) ≡ line = ap without_return (without_end_ended line all.0) ∙ without_return_none line all.0 in
+    let bare : without_return (without_end (ended line)) ≡ line = ap without_return (without_end_run line (no_end line all.0)) ∙ without_return_none line all.0 in
     rw (bare, lines_placed (at + length (ended line)) lines all.1) refl
+
+-- The lines of a file that is written line by line.
+pub file_placed : (lines : List (List ℕ)) → AllByRecursion IsLine lines → file_lines (text_of_lines lines) ≡ placed 0 lines
+file_placed lines all = ap (lines_behind 0) (whole_written lines all) ∙ lines_placed 0 lines all
 
 -- a written line has no fault of its own
 pub written_fits : (text : List ℕ) (upto : ℕ) → list_all is_text_byte text ≡ true → length text ≤ 1024 → upto ≤ 2 ^ 30 → line_fault false (record { text = text; upto = upto }) ≡ None

@@ -13,6 +13,14 @@ use Rattle.mm_grammar.specs.Place as at
 use Rattle.line_text.specs.Formats as formats
 use Rattle.mm_grammar.specs.Reading as matrix
 use Rattle.mm_grammar.proofs.Steps as matrix_steps
+use Rattle.store_io.specs.Outside.{Outside}
+use Rattle.text_io.specs.Halting.{Leaves}
+use Rattle.text_io.specs.declared.halt.Halt.{Halt}
+use Rattle.text_io.specs.declared.halt.Halt.TheVariants as halt
+use Rattle.mm_reader.specs.Halting as matrix_halts
+use Rattle.mm_reader.specs.Views.{refusal_of}
+use Rattle.mm_reader.specs.declared.fault.MmErr.{MmErr}
+use Rattle.piece_file.specs.Halting.{Halts, halt_in}
 use Rattle.piece_grammar.specs.Head.{Head, Piece}
 use Rattle.piece_grammar.specs.Faults.{Mm, Refusal}
 use Rattle.piece_grammar.specs.Turn.{Turn}
@@ -69,6 +77,18 @@ values_given turn head header lines n values kind e =
     ∙ ap (as_piece head) e
     ∙ ap (λ k. Ok (record { head = head; words = expanded k header.columns values })) kind
 
-pub values_refused : (turn : Turn) (head : Head) (header : Header) (lines : List Line) (n : ℕ) (r : MatrixRefusal) → matrix.read_on width32 n (at.AtValues header []) lines ≡ Err r
+values_refused : (turn : Turn) (head : Head) (header : Header) (lines : List Line) (n : ℕ) (r : MatrixRefusal) → matrix.read_on width32 n (at.AtValues header []) lines ≡ Err r
     → read_on turn n (Behind head (at.AtValues header [])) lines ≡ Err (record { line = r.line; fault = Mm r.fault })
 values_refused turn head header lines n r e = values_as turn head header lines n [] ∙ ap (as_piece head) e
+
+-- ---- why reading them halts
+
+pub halts_in : (halt : Halt MmErr) (turn : Turn) (head : Head) (header : Header) (n : ℕ) (lines : List Line) → matrix_halts.Halts halt n (at.AtValues header []) lines → Halts (halt_in halt) turn n (Behind head (at.AtValues header [])) lines
+halts_in (halt.Bad e) turn head header n lines is = values_refused turn head header lines n (refusal_of e) is
+halts_in halt.Failed turn head header n lines is = tt
+halts_in halt.Memory turn head header n lines is = tt
+
+pub leaves_in : (halt : Halt MmErr) (old new : Outside) → Leaves halt old new → Leaves (halt_in halt) old new
+leaves_in (halt.Bad e) old new is = is
+leaves_in halt.Failed old new is = is
+leaves_in halt.Memory old new is = is

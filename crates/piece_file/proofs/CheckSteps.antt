@@ -12,9 +12,9 @@ use Rattle.piece_grammar.specs.Faults.{DescLine, Disagree, DescEntry, WrongPlace
 use Rattle.piece_grammar.specs.Turn.{Turn}
 use Rattle.piece_grammar.specs.FaultTable.{first_fault, disagrees, is_elsewhere, desc_rows}
 use Rattle.piece_grammar.specs.Head.{Head}
-use Rattle.piece_grammar.proofs.Heads.{IsOnGrid, on_grid, here, agreed}
+use Rattle.piece_grammar.proofs.Heads.{IsOnGrid, on_grid, here, agreed, none_met}
 use Rattle.piece_grammar.proofs.GoodHeads.{tested}
-use Rattle.piece_file.specs.TurnView.{IsAsked}
+use Rattle.piece_file.specs.Asking.{IsAsked}
 
 -- a grid of so many rows and columns isn't refused
 shape_good : (p q : ℕ) → 1 ≤ p → p ≤ 64 → 1 ≤ q → q ≤ 64 → p * q ≤ 64 → shape_refusal 64 p q ≡ None
@@ -54,11 +54,12 @@ row_entry turn d info off same is = let e : desc_info d ≡ Some info = sym is i
 pub row_elsewhere : (turn : Turn) (d : Desc) → is_off_grid d ≡ false → disagrees turn.first d ≡ false → None ≡ desc_info d → is_elsewhere turn d ≡ true → first_fault (desc_rows turn (Some d)) ≡ Some WrongPlace
 row_elsewhere turn d off same is other = let e : desc_info d ≡ None = sym is in rw (off, same, e, other) refl
 
-pub no_row : (turn : Turn) (d : Desc) → is_off_grid d ≡ false → disagrees turn.first d ≡ false → None ≡ desc_info d → is_elsewhere turn d ≡ false → first_fault (desc_rows turn (Some d)) ≡ None
-no_row turn d off same is place = let e : desc_info d ≡ None = sym is in rw (off, same, e, place) refl
-
--- the head is the one that is asked for
-pub asked : (turn : Turn) (d : Desc) (h : Head) → is_off_grid d ≡ false → disagrees turn.first d ≡ false → None ≡ desc_info d → is_elsewhere turn d ≡ false → h ≡ head_of d → IsAsked turn h
-asked turn d h off same is place e =
-    let p = here turn d place in
-    subst (λ (x : Head). IsAsked turn x) (sym e) (record { is_head = (tested.passed d off (sym is)).0; row = p.0; column = p.1; agrees = agreed turn.first d same })
+-- no row is met, and the head is the one that is asked for
+pub finds_head : (turn : Turn) (d : Desc) (h : Head) → is_off_grid d ≡ false → disagrees turn.first d ≡ false → None ≡ desc_info d → is_elsewhere turn d ≡ false → h ≡ head_of d
+    → (h ≡ head_of d) × (first_fault (desc_rows turn (Some d)) ≡ None) × IsAsked turn h
+finds_head turn d h off same is place e =
+    let p = here turn d place in (
+      e,
+      none_met turn d (record { on_grid = off; agrees = same; good = sym is; place = place }),
+      subst (λ (x : Head). IsAsked turn x) (sym e) (record { is_head = (tested.passed d off (sym is)).0; row = p.0; column = p.1; agrees = agreed turn.first d same }),
+    )

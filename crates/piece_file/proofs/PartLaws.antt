@@ -1,22 +1,25 @@
 -- The parts of a piece, by what the step of a line gives.
-use Rattle.std.proofs.Common.{◌≡◌, ℕ, suc, ◌^◌, ◌≤◌, Bool, true, false, cond, ◌||◌, List, [], ◌∷◌, length, Option, Some, None, Result, Ok, Err, refl, sym, ap, ◌∙◌, nat_lt}
-use Rattle.std.specs.List.{list_all}
+use Rattle.std.proofs.Common.{◌≡◌, ℕ, suc, ◌^◌, ◌≤◌, true, false, List, [], ◌∷◌, Some, Result, Ok, Err, refl, sym, ap, ◌∙◌}
+use Rattle.std.specs.Prelude.{IfOk, OnOk}
 use Rattle.mm_grammar.specs.Width.{width32}
-use Rattle.mm_grammar.specs.Faults.{Fault as MatrixFault, FileLong, LineLong, NotText}
-use Rattle.mm_grammar.specs.FileLines.{Line, line_fault, is_text_byte}
-use Rattle.mm_grammar.specs.Parts.{is_comment}
+use Rattle.mm_grammar.specs.Faults.{Fault as MatrixFault}
+use Rattle.mm_grammar.specs.FileLines.{Line, line_fault}
 use Rattle.mm_grammar.specs.Place as at
-use Rattle.mm_grammar.specs.Reading as matrix
-use Rattle.mm_reader.specs.Taking.{HasFault, IsTaken}
-use Rattle.mm_reader.specs.ReaderView.{ReaderView, line_of}
+use Rattle.mm_reader.proofs.WayLaws as mm
+use Rattle.mm_reader.specs.Taking.{HasFault, IsTaken, TakesNext}
+use Rattle.mm_reader.specs.ReaderView.{ReaderView, line_of, lines_left}
 use Rattle.piece_grammar.specs.Faults.{Fault, Mm}
 use Rattle.piece_grammar.specs.Turn.{Turn}
 use Rattle.piece_grammar.specs.Place.{Place, AtBanner, AtDesc, Behind}
 use Rattle.line_text.specs.Formats as formats
 use Rattle.piece_grammar.specs.PieceReading.{step, at_end, read_on}
-use Rattle.piece_file.specs.Stopping.{Stops}
-use Rattle.piece_file.specs.declared.stop.Stop.{Stop}
-use Rattle.piece_file.specs.declared.stop.Stop.TheVariants.{Bad, Failed, Memory}
+use Rattle.store_io.specs.Outside.{Outside}
+use Rattle.text_io.specs.declared.halt.Halt.{Halt}
+use Rattle.text_io.specs.declared.halt.Halt.TheVariants.{Bad, Failed, Memory}
+use Rattle.piece_file.specs.FaultView.{fault_view}
+use Rattle.piece_file.specs.Halting.{Halts, Makes, stepped, halted, Passes}
+use Rattle.piece_file.specs.declared.fault.PieceFault.{PieceFault}
+use Rattle.piece_file.specs.declared.fault.Refusal.{Refusal}
 
 -- a line that can't stand at its place, one that can, and an end that comes too early
 pub bad_line : (turn : Turn) (n : ℕ) (place : Place) (line : Line) (lines rest : List Line) (fault : Fault) → lines ≡ line ∷ rest → step turn place line ≡ Err fault → read_on turn n place lines ≡ Err (record { line = n; fault = fault })
@@ -33,30 +36,11 @@ bad_end turn n place lines fault none e = rw (none, e) refl
 
 -- ---- a line that is too long, or too far on in the file
 
-fault_by : Bool → Bool → Bool → Option MatrixFault
-fault_by far long text = cond far (Some FileLong) (cond long (Some LineLong) (cond text None (Some NotText)))
-
-own : (far long text : Bool) (fault : MatrixFault) → fault_by far long true ≡ Some fault → fault_by far long text ≡ Some fault
-unfolding fault_by
-own true long text fault e = e
-own false true text fault e = e
-own false false text fault e = absurd cc
-
-own_fault : (free : Bool) (line : Line) (fault : MatrixFault) → line_fault true line ≡ Some fault → line_fault free line ≡ Some fault
-unfolding line_fault fault_by
-own_fault free line fault e = own (nat_lt (2 ^ 30) line.upto) (nat_lt 1024 (length line.text)) (free || list_all is_text_byte line.text) fault e
-
-part_stops : (place : at.Place) (line : Line) (fault : MatrixFault) → line_fault true line ≡ Some fault → matrix.step width32 place line ≡ Err fault
-unfolding matrix.step
-part_stops at.AtBanner line fault e = rw (own_fault false line fault e) refl
-part_stops (at.AtSize kind) line fault e = rw (own_fault (is_comment line.text) line fault e) refl
-part_stops (at.AtValues header stored) line fault e = rw (own_fault false line fault e) refl
-
 own_stops : (turn : Turn) (place : Place) (line : Line) (fault : MatrixFault) → line_fault true line ≡ Some fault → step turn place line ≡ Err (Mm fault)
 unfolding step
-own_stops turn AtBanner line fault e = rw (part_stops at.AtBanner line fault e) refl
-own_stops turn AtDesc line fault e = rw (own_fault false line fault e) refl
-own_stops turn (Behind head place) line fault e = rw (part_stops place line fault e) refl
+own_stops turn AtBanner line fault e = rw (mm.own_stops width32 at.AtBanner line fault e) refl
+own_stops turn AtDesc line fault e = rw (mm.own_fault false line fault e) refl
+own_stops turn (Behind head place) line fault e = rw (mm.own_stops width32 place line fault e) refl
 
 pub fault_stops : (n k : ℕ) (lines : List Line) (fault : MatrixFault) → HasFault lines fault → k ≡ n → (turn : Turn) (place : Place) → read_on turn n place lines ≡ Err (record { line = k; fault = Mm fault })
 fault_stops n k lines fault h same turn place =
@@ -67,29 +51,32 @@ end_stops n k lines fault none same turn place e = bad_end turn n place lines fa
 
 -- ---- a line that was taken, by what is seen of its text
 
-abbrev pub Steps : Turn → Place → List ℕ → Result Place Fault → Type 0
-Steps turn place text s = (upto : ℕ) → upto ≤ 2 ^ 30 → step turn place (line_of text upto) ≡ s
+here : {X : Type 0} (behind : X → Place) (r : Result X PieceFault) (turn : Turn) (place : Place) (text : List ℕ) (v : ReaderView) → text ≡ v.text → v.before ≤ 2 ^ 30 → Makes behind r turn place text → step turn place (line_of v.text v.before) ≡ stepped behind r
+here behind r turn place text v same near makes = ap (λ (t : List ℕ). step turn place (line_of t v.before)) (sym same) ∙ makes v.before near
 
-here : (turn : Turn) (place : Place) (text : List ℕ) (r : ReaderView) (s : Result Place Fault) → text ≡ r.text → r.before ≤ 2 ^ 30 → Steps turn place text s → step turn place (line_of r.text r.before) ≡ s
-here turn place text r s same near steps = ap (λ (t : List ℕ). step turn place (line_of t r.before)) (sym same) ∙ steps r.before near
+-- a part of one line, by the step of its line
+pub part : {X : Type 0} (behind : X → Place) (r : Result X PieceFault) (turn : Turn) (place : Place) (old new : ReaderView) (before after : Outside) (text : List ℕ) (line : ℕ) → TakesNext old new before after → text ≡ new.text
+    → Makes behind r turn place text → line ≡ old.number → Passes behind (halted line r) turn place old new before after
+part behind (Ok x) turn place old new before after text line t same makes number =
+    (λ told. good_line turn old.number new.number place (behind x) (line_of new.text new.before) (lines_left old before) (lines_left new after) (t.line told) t.taken.number (here behind (Ok x) turn place text new same t.taken.near makes), t.same)
+part behind (Err what) turn place old new before after text line t same makes number = (
+  λ told. bad_line turn old.number place (line_of new.text new.before) (lines_left old before) (lines_left new after) (fault_view what) (t.line told) (here behind (Err what) turn place text new same t.taken.near makes)
+      ∙ ap (λ (n : ℕ). Err (record { line = n; fault = fault_view what })) (sym number),
+  t.same,
+)
 
-pub part_goes : (turn : Turn) (place next : Place) (old new : ReaderView) (before after : List Line) (text : List ℕ) (s : Result Place Fault) → before ≡ line_of new.text new.before ∷ after → IsTaken old new → text ≡ new.text → Steps turn place text s
-    → s ≡ Ok next → read_on turn old.number place before ≡ read_on turn new.number next after
-part_goes turn place next old new before after text s whole moves same steps e =
-    good_line turn old.number new.number place next (line_of new.text new.before) before after whole moves.number (here turn place text new s same moves.near steps ∙ e)
+pub part_moves : {X : Type 0} (r : Result X PieceFault) (old new : ReaderView) (before after : Outside) (line : ℕ) → TakesNext old new before after → OnOk (halted line r) (IsTaken old new)
+part_moves (Ok x) old new before after line t = t.taken
+part_moves (Err what) old new before after line t = tt
 
-pub part_bad : (turn : Turn) (place : Place) (old new : ReaderView) (before after : List Line) (text : List ℕ) (s : Result Place Fault) (fault : Fault) (line : ℕ) → before ≡ line_of new.text new.before ∷ after → IsTaken old new → text ≡ new.text
-    → Steps turn place text s → s ≡ Err fault → line ≡ old.number → read_on turn old.number place before ≡ Err (record { line = line; fault = fault })
-part_bad turn place old new before after text s fault line whole moves same steps e number =
-    bad_line turn old.number place (line_of new.text new.before) before after fault whole (here turn place text new s same moves.near steps ∙ e) ∙ ap (λ (n : ℕ). Err (record { line = n; fault = fault })) (sym number)
+pub part_holds : {X : Type 0} (P : X → Type 0) (line : ℕ) (r : Result X PieceFault) → IfOk r P → IfOk (halted line r) P
+part_holds P line (Ok x) is = is
+part_holds P line (Err what) is = tt
 
 -- ---- parts one after another
 
--- what stops after a part that was passed stops before it
-pub stops_then : (stop : Stop) (turn : Turn) (n m : ℕ) (place next : Place) (lines rest : List Line) → read_on turn n place lines ≡ read_on turn m next rest → Stops stop turn m next rest → Stops stop turn n place lines
-stops_then (Bad r) turn n m place next lines rest e s = e ∙ s
-stops_then Failed turn n m place next lines rest e s = tt
-stops_then Memory turn n m place next lines rest e s = tt
-
-pub none_passed : (turn : Turn) (n : ℕ) (place : Place) (lines : List Line) → read_on turn n place lines ≡ read_on turn n place lines
-none_passed turn n place lines = refl
+-- what halts after a part that was passed halts before it
+pub halts_then : (halt : Halt Refusal) (turn : Turn) (n m : ℕ) (place next : Place) (lines rest : List Line) → read_on turn n place lines ≡ read_on turn m next rest → Halts halt turn m next rest → Halts halt turn n place lines
+halts_then (Bad r) turn n m place next lines rest e s = e ∙ s
+halts_then Failed turn n m place next lines rest e s = tt
+halts_then Memory turn n m place next lines rest e s = tt

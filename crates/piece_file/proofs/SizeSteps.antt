@@ -5,18 +5,10 @@ use Rattle.mm_grammar.specs.Parts.{Header}
 use Rattle.piece_grammar.specs.Head.{Head, array_columns, array_words}
 use Rattle.piece_grammar.specs.Faults.{Shape, TooLarge}
 use Rattle.piece_grammar.specs.Turn.{Turn}
-use Rattle.mm_grammar.specs.FileLines.{Line}
 use Rattle.mm_grammar.specs.Symmetry.{General}
-use Rattle.mm_grammar.specs.Place as at
-use Rattle.mm_grammar.specs.Reading as matrix
-use Rattle.mm_grammar.specs.Width.{width32}
-use Rattle.piece_grammar.specs.Place.{Behind}
-use Rattle.piece_grammar.specs.PieceReading.{step}
 use Rattle.piece_grammar.specs.FaultTable.{first_fault, array_rows}
 use Rattle.piece_grammar.proofs.Heads.{when_none}
-use Rattle.piece_file.specs.Stopping.{array_header}
-use Rattle.piece_file.proofs.StepLaws.{size_taken, kind_kept}
-use Rattle.std.specs.Prelude.{Ok}
+use Rattle.piece_file.specs.Halting.{Fits}
 use Rattle.std.proofs.lemmas.Bool.{and_parts, eqb-true, ltb-false}
 
 no_second : (b : Bool) → b && false ≡ false
@@ -48,22 +40,12 @@ not_not : (b : Bool) → not b ≡ false → b ≡ true
 not_not true h = refl
 not_not false h = absurd cc
 
--- it is that of the head's array, and there is room
-pub size_is : (turn : Turn) (head : Head) (size : Header) → first_fault (array_rows turn head (Some size)) ≡ None → (size.rows ≡ head.lld) × (size.columns ≡ array_columns head) × (turn.before + array_words head ≤ 2 ^ 26)
+size_is : (turn : Turn) (head : Head) (size : Header) → first_fault (array_rows turn head (Some size)) ≡ None → (size.rows ≡ head.lld) × (size.columns ≡ array_columns head) × (turn.before + array_words head ≤ 2 ^ 26)
 size_is turn head size none =
     let a = when_none (not (nat_eq size.rows head.lld && nat_eq size.columns (array_columns head))) (Shape size.rows size.columns head.lld (array_columns head)) _ none in
     let b = when_none (nat_lt (2 ^ 26) (turn.before + array_words head)) (TooLarge (turn.before + array_words head)) [] a.1 in
     let c = and_parts (nat_eq size.rows head.lld) (nat_eq size.columns (array_columns head)) (not_not _ a.0) in
     (eqb-true size.rows head.lld c.0, eqb-true size.columns (array_columns head) c.1, ltb-false (2 ^ 26) (turn.before + array_words head) b.0)
 
-same_header : (head : Head) (size : Header) → size.symmetry ≡ General → size.rows ≡ head.lld → size.columns ≡ array_columns head → size ≡ array_header head
-same_header head size kind rows columns = rw (← kind, ← rows, ← columns) refl
-
-pub size_passed : (turn : Turn) (head : Head) (size : Header) (line : Line) → matrix.step width32 (at.AtSize General) line ≡ Ok (at.AtValues size []) → first_fault (array_rows turn head (Some size)) ≡ None
-    → step turn (Behind head (at.AtSize General)) line ≡ Ok (Behind head (at.AtValues (array_header head) []))
-size_passed turn head size line e none =
-    let s = size_is turn head size none in
-    size_taken turn head General size line e none ∙ ap (λ (h : Header). Ok (Behind head (at.AtValues h []))) (same_header head size (kind_kept General size line e) s.0 s.1)
-
-pub size_few : (turn : Turn) (head : Head) (size : Header) → first_fault (array_rows turn head (Some size)) ≡ None → turn.before + array_words head ≤ 2 ^ 26
-size_few turn head size none = (size_is turn head size none).2
+pub size_fits : (turn : Turn) (head : Head) (size : Header) → size.symmetry ≡ General → first_fault (array_rows turn head (Some size)) ≡ None → Fits turn head size
+size_fits turn head size kind none = let s = size_is turn head size none in record { general = kind; rows = s.0; columns = s.1; few = s.2 }

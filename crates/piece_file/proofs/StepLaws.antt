@@ -20,6 +20,13 @@ use Rattle.piece_grammar.specs.Turn.{Turn}
 use Rattle.piece_grammar.specs.Place.{AtBanner, AtDesc, Behind}
 use Rattle.piece_grammar.specs.FaultTable.{first_fault, is_another, desc_rows, size_at, array_rows}
 use Rattle.piece_grammar.specs.PieceReading.{step}
+use Rattle.std.specs.Prelude.{IfOk}
+use Rattle.piece_file.specs.HeadView.{head_view}
+use Rattle.piece_file.specs.FaultView.{fault_view}
+use Rattle.piece_file.specs.Asking.{Finds}
+use Rattle.piece_file.specs.Halting.{Makes, behind_head}
+use Rattle.piece_file.specs.declared.head.Head.{Head as InCode}
+use Rattle.piece_file.specs.declared.fault.PieceFault.{PieceFault}
 
 -- ---- the banner
 
@@ -63,15 +70,22 @@ pub desc_no_form : (turn : Turn) (text : List ℕ) (upto : ℕ) → length text 
 unfolding step
 desc_no_form turn text upto short is none near = let e : desc_of text ≡ None = sym none in rw (good_text text upto short near is, e) refl
 
-pub desc_bad : (turn : Turn) (text : List ℕ) (upto : ℕ) (d : Desc) (fault : Fault) → length text ≤ 1024 → list_all is_text_byte text ≡ true → Some d ≡ desc_of text → first_fault (desc_rows turn (Some d)) ≡ Some fault → upto ≤ 2 ^ 30
+desc_bad : (turn : Turn) (text : List ℕ) (upto : ℕ) (d : Desc) (fault : Fault) → length text ≤ 1024 → list_all is_text_byte text ≡ true → Some d ≡ desc_of text → first_fault (desc_rows turn (Some d)) ≡ Some fault → upto ≤ 2 ^ 30
     → step turn AtDesc (line_of text upto) ≡ Err fault
 unfolding step
 desc_bad turn text upto d fault short is some met near = let e : desc_of text ≡ Some d = sym some in rw (good_text text upto short near is, e, met) refl
 
-pub desc_good : (turn : Turn) (text : List ℕ) (upto : ℕ) (d : Desc) (h : Head) → length text ≤ 1024 → list_all is_text_byte text ≡ true → Some d ≡ desc_of text → first_fault (desc_rows turn (Some d)) ≡ None → h ≡ head_of d → upto ≤ 2 ^ 30
+desc_good : (turn : Turn) (text : List ℕ) (upto : ℕ) (d : Desc) (h : Head) → length text ≤ 1024 → list_all is_text_byte text ≡ true → Some d ≡ desc_of text → first_fault (desc_rows turn (Some d)) ≡ None → h ≡ head_of d → upto ≤ 2 ^ 30
     → step turn AtDesc (line_of text upto) ≡ Ok (Behind h (at.AtSize General))
 unfolding step
 desc_good turn text upto d h short is some none same near = let e : desc_of text ≡ Some d = sym some in let s : head_of d ≡ h = sym same in rw (good_text text upto short near is, e, none, s) refl
+
+-- the line has the form of such lines, and the check of its numbers decides
+pub head_makes : {E : Type 0} (turn : Turn) (text : List ℕ) (d : Desc) (r : Result (Result InCode PieceFault) E) → length text ≤ 1024 → list_all is_text_byte text ≡ true → Some d ≡ desc_of text → IfOk r (λ found. Finds found turn d)
+    → IfOk r (λ found. Makes behind_head found turn AtDesc text)
+head_makes turn text d (Ok (Ok head)) short is some finds = λ upto near. desc_good turn text upto d (head_view head) short is some finds.1 finds.0 near
+head_makes turn text d (Ok (Err fault)) short is some finds = λ upto near. desc_bad turn text upto d (fault_view fault) short is some finds near
+head_makes turn text d (Err e) short is some finds = tt
 
 -- ---- the size line
 
@@ -96,17 +110,6 @@ size_gives kind header ws false e =
     let k = matrix_steps.then_ok (λ (h : Header). at.AtValues h []) (size_words width32 kind ws) (at.AtValues header []) e in
     let same : k.0 ≡ header = same_header k.0 header (ap reached (sym k.2)) in
     ap (λ (r : Result Header MatrixFault). result_ok r) k.1 ∙ ap (λ (h : Header). Some h) same
-
-size_kind_is : (kind : Symmetry) (header : Header) (ws : List (List ℕ)) (t : Bool) → cond t (Ok (at.AtSize kind)) (matrix.then_at (λ h. at.AtValues h []) (size_words width32 kind ws)) ≡ reached (at.AtValues header []) → header.symmetry ≡ kind
-size_kind_is kind header ws true e = absurd (no_size_is kind header e)
-size_kind_is kind header ws false e =
-    let k = matrix_steps.then_ok (λ (h : Header). at.AtValues h []) (size_words width32 kind ws) (at.AtValues header []) e in
-    ap (λ (h : Header). h.symmetry) (same_header header k.0 (ap reached k.2)) ∙ matrix_steps.size_kind width32 kind ws k.0 k.1
-
--- a size has the symmetry of the banner
-pub kind_kept : (kind : Symmetry) (header : Header) (line : Line) → matrix.step width32 (at.AtSize kind) line ≡ Ok (at.AtValues header []) → header.symmetry ≡ kind
-unfolding matrix.step
-kind_kept kind header line e = let p = matrix_steps.unless_ok _ _ (at.AtValues header []) e in size_kind_is kind header (words line.text) _ p.1
 
 between_size : (kind : Symmetry) (line : Line) → matrix.step width32 (at.AtSize kind) line ≡ Ok (at.AtSize kind) → size_at (at.AtSize kind) line.text ≡ None
 unfolding matrix.step

@@ -1,13 +1,15 @@
 -- What reading the pieces of a prefix gives, and what it does to a store.
-use Rattle.std.specs.Prelude.{◌≡◌, ℕ, ◌≤◌, List, [], ◌∷◌, ◌++◌, length, Some, None, Result, Ok, Err, map}
+use Rattle.std.specs.Prelude.{◌≡◌, ℕ, ◌≤◌, List, [], ◌∷◌, ◌++◌, length, Some, None, Result, Ok, Err, IfOk, IfErr, OnOk, IsTrue, map}
 use Rattle.std.specs.Global.{Vec}
 use Rattle.std.specs.FinMap.{get}
 use Rattle.store_io.specs.Outside.{Outside, Files, SameCounts, HasFailed, HasMissed}
+use Rattle.text_io.specs.Reading.{OnlyReads}
 use Rattle.piece_grammar.specs.Head as grammar
 use Rattle.piece_grammar.specs.Turn.{Turn, HasTurn}
 use Rattle.piece_grammar.specs.PieceFault.{IsPieceFault}
 use Rattle.piece_grammar.specs.PlainPiece.{piece_name}
 use Rattle.piece_grammar.specs.Pieces as pieces
+use Rattle.piece_file.specs.HeadView.{head_view}
 use Rattle.piece_file.specs.FaultView.{fault_view}
 use Rattle.piece_file.specs.PieceView.{piece_view}
 use Rattle.piece_file.specs.declared.piece.Piece.{Piece}
@@ -17,6 +19,18 @@ use Rattle.piece_file.specs.declared.fault.PieceErr.TheVariants.{Missing, Failed
 -- the bytes of the files by their names
 abbrev pub held_in : Files → pieces.Held
 held_in files name = get files name
+
+-- ---- why each answer came, by the counts
+
+abbrev pub Because : PieceErr → Outside → Outside → Type 0
+Because (Missing name) old new = HasMissed old new
+Because (Failed name) old new = HasFailed old new
+Because (Bad name line fault) old new = SameCounts old new
+Because NoMemory old new = SameCounts old new
+
+abbrev pub HasReason : {X : Type 0} → Result X PieceErr → Outside → Outside → Type 0
+HasReason (Ok x) old new = SameCounts old new
+HasReason (Err e) old new = Because e old new
 
 -- ---- one piece
 
@@ -37,6 +51,16 @@ RefusesTurn NoMemory files prefix turn = Unit {0}
 abbrev pub LoadsTurn : Result Piece PieceErr → Files → (prefix : List ℕ) → Turn → Type 0
 LoadsTurn (Ok p) files prefix turn = pieces.HoldsPiece (held_in files) prefix turn (piece_view p)
 LoadsTurn (Err e) files prefix turn = RefusesTurn e files prefix turn
+
+-- what reading the file of a turn gives, and what it does to a store
+pub record ReadsTurn (result : Result Piece PieceErr) (prefix : List ℕ) (turn : Turn) (old new : Outside) : Type 0 where
+  pub loads : IsTrue old.told → LoadsTurn result old.files prefix turn
+  pub named : IfErr result (λ e. IsNamed e (pieces.name_of prefix turn))
+  pub is_head : IfOk result (λ p. grammar.IsHead (head_view p.head))
+  pub has_turn : IfOk result (λ p. HasTurn turn (head_view p.head))
+  pub ended : IsTrue old.told → OnOk result (new.left ≡ [])
+  pub cause : HasReason result old new
+  pub same : OnlyReads old new
 
 -- ---- all pieces
 
@@ -79,15 +103,3 @@ Refuses NoMemory files prefix = Unit {0}
 abbrev pub Gathers : Result (Vec Piece) PieceErr → Files → (prefix : List ℕ) → Type 0
 Gathers (Ok ps) files prefix = pieces.IsGathered (held_in files) prefix (pieces.Whole (map piece_view ps.items))
 Gathers (Err e) files prefix = Refuses e files prefix
-
--- ---- why each answer came, by the counts
-
-abbrev pub Because : PieceErr → Outside → Outside → Type 0
-Because (Missing name) old new = HasMissed old new
-Because (Failed name) old new = HasFailed old new
-Because (Bad name line fault) old new = SameCounts old new
-Because NoMemory old new = SameCounts old new
-
-abbrev pub HasReason : {X : Type 0} → Result X PieceErr → Outside → Outside → Type 0
-HasReason (Ok x) old new = SameCounts old new
-HasReason (Err e) old new = Because e old new

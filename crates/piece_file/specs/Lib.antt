@@ -1,5 +1,6 @@
 pub use Rattle.store_io.specs.Outside
 pub use Rattle.text_io.specs.Reading
+pub use Rattle.text_io.specs.Halting as TextHalting
 pub use Rattle.text_io.specs.Writing
 pub use Rattle.text_io.specs.Saving
 pub use Rattle.pack_words.specs.LocalCells
@@ -12,7 +13,6 @@ pub use Rattle.piece_grammar.specs.PlainPiece
 pub mod HeadView
 pub mod PieceView
 pub mod FaultView
-pub mod DescView
-pub mod TurnView
-pub mod Stopping
+pub mod Asking
+pub mod Halting
 pub mod Gathering

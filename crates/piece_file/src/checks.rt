@@ -8,11 +8,9 @@ ghost use Rattle.descriptor.specs.Entries.{descinit_entries};
 ghost use Rattle.piece_grammar.specs.Desc.{is_off_grid, desc_info, is_number, differs_from, head_of as head_of_desc};
 ghost use Rattle.piece_grammar.specs.FaultTable.{first_fault, disagrees, is_elsewhere, desc_rows};
 ghost use Rattle.piece_file.specs.HeadView.{head_view};
-ghost use Rattle.piece_file.specs.DescView.{desc_view};
-ghost use Rattle.piece_file.specs.TurnView.{turn_view, IsAsked};
-ghost use Rattle.piece_file.specs.FaultView.{fault_view};
+ghost use Rattle.piece_file.specs.Asking.{desc_view, turn_view, Finds};
 
-use crate::desc::Desc;
+use crate::desc_line::Desc;
 use crate::fault::PieceFault;
 use crate::head::Head;
 use crate::turn::Turn;
@@ -184,18 +182,13 @@ fn entry_info(alloc: Global, desc: &Desc, head: &Head) -> Result<Option<Info>, A
 }
 
 /// The head of these numbers, or what is wrong with them, where it is this piece's turn.
-#[tactic(auto, using(crate::proofs::CheckSteps::row_grid, crate::proofs::CheckSteps::row_differs, crate::proofs::CheckSteps::row_entry, crate::proofs::CheckSteps::row_elsewhere, crate::proofs::CheckSteps::no_row, crate::proofs::CheckSteps::asked))]
+#[tactic(auto, using(crate::proofs::CheckSteps::row_grid, crate::proofs::CheckSteps::row_differs, crate::proofs::CheckSteps::row_entry, crate::proofs::CheckSteps::row_elsewhere))]
 pub(crate) fn check_desc(
     alloc: Global,
     desc: &Desc,
     turn: &Turn,
 ) -> Result<Result<Head, PieceFault>, AllocError>
-    ensures good { IfOk result (λ r. IfOk r (λ head. head_view head ≡ head_of_desc (desc_view desc.now))) }
-    ensures passes { IfOk result (λ r.
-        OnOk r (first_fault (desc_rows (turn_view turn.now) (Some (desc_view desc.now))) ≡ None)) }
-    ensures asked { IfOk result (λ r. IfOk r (λ head. IsAsked (turn_view turn.now) (head_view head))) }
-    ensures bad { IfOk result (λ r. IfErr r (λ fault.
-        first_fault (desc_rows (turn_view turn.now) (Some (desc_view desc.now))) ≡ Some (fault_view fault))) }
+    ensures { IfOk result (λ found. Finds found (turn_view turn.now) (desc_view desc.now)) }
 {
     if off_grid(desc) {
         return Ok(Err(PieceFault::DescLine));

@@ -5,12 +5,27 @@ ghost use Rattle.line_text.specs.Words.{words};
 ghost use Rattle.line_text.specs.Numbers.{signed_number};
 ghost use Rattle.mm_grammar.specs.Parts.{starts_blank};
 ghost use Rattle.piece_grammar.specs.Desc.{desc_word, in_32_bits, numbers_of, desc_numbered, desc_if_all, desc_words, desc_of};
-ghost use Rattle.piece_file.specs.DescView.{desc_view};
+ghost use Rattle.piece_file.specs.Asking.{desc_view};
 
-use crate::desc::Desc;
 use line_text::{is_blank_byte, next_word, read_i32};
 
 const NUMBERS: usize = 11;
+
+// The numbers of the line `%DESC P Q p q M N MB NB RSRC CSRC LLD`.
+#[derive(Clone, Copy)]
+pub(crate) struct Desc {
+    pub(crate) nprow: i32,
+    pub(crate) npcol: i32,
+    pub(crate) prow: i32,
+    pub(crate) pcol: i32,
+    pub(crate) m: i32,
+    pub(crate) n: i32,
+    pub(crate) mb: i32,
+    pub(crate) nb: i32,
+    pub(crate) rsrc: i32,
+    pub(crate) csrc: i32,
+    pub(crate) lld: i32,
+}
 
 // Sets the number at a place.
 fn set_number(numbers: &mut [i32], place: usize, number: i32)
@@ -29,13 +44,8 @@ fn eleven_integers(line: &[u8]) -> Option<[i32; NUMBERS]>
     let mut numbers = [0; NUMBERS];
     let mut rest = line;
     for k in 0..NUMBERS {
-        let Some((word, behind)) = next_word(rest) else {
-            return None;
-        };
-        let Some(number) = read_i32(word) else {
-            return None;
-        };
-        set_number(&mut numbers, k, number);
+        let (word, behind) = next_word(rest)?;
+        set_number(&mut numbers, k, read_i32(word)?);
         rest = behind;
     }
     match next_word(rest) {
@@ -44,31 +54,11 @@ fn eleven_integers(line: &[u8]) -> Option<[i32; NUMBERS]>
     }
 }
 
-// The number at a place.
-fn number_at(numbers: &[i32], place: usize) -> i32
-    requires { place < length numbers.now }
-    ensures { result ≡ slice_index_or numbers.now place (pos 0) }
-{
-    numbers[place]
-}
-
 // The numbers in the order of the line.
-#[tactic(auto, using(crate::proofs::DescLineSteps::eleven))]
-fn numbered(numbers: &[i32]) -> Desc
-    requires { length numbers.now ≡ 11 }
-    ensures { Some (desc_view result) ≡ desc_numbered numbers.now }
+fn numbered(numbers: [i32; NUMBERS]) -> Desc
+    ensures { Some (desc_view result) ≡ desc_numbered numbers }
 {
-    let nprow = number_at(numbers, 0);
-    let npcol = number_at(numbers, 1);
-    let prow = number_at(numbers, 2);
-    let pcol = number_at(numbers, 3);
-    let m = number_at(numbers, 4);
-    let n = number_at(numbers, 5);
-    let mb = number_at(numbers, 6);
-    let nb = number_at(numbers, 7);
-    let rsrc = number_at(numbers, 8);
-    let csrc = number_at(numbers, 9);
-    let lld = number_at(numbers, 10);
+    let [nprow, npcol, prow, pcol, m, n, mb, nb, rsrc, csrc, lld] = numbers;
     Desc {
         nprow,
         npcol,
@@ -110,7 +100,7 @@ fn marked_numbers(line: &[u8]) -> Option<Desc>
     if !is_mark(mark) {
         return None;
     }
-    Some(numbered(&eleven_integers(rest)?))
+    Some(numbered(eleven_integers(rest)?))
 }
 
 /// The numbers of a line that starts at its first byte with the word `%DESC` and has eleven integers of 32 bits after it.

@@ -25,6 +25,13 @@ pub enum PieceFault {
     Mm(MmFault),
 }
 
+// A fault and its line, counted from 1.
+#[derive(Clone, Copy)]
+pub(crate) struct Refusal {
+    pub(crate) line: u32,
+    pub(crate) fault: PieceFault,
+}
+
 /// Why a piece, or the pieces of a matrix, weren't read.
 #[derive(Debug, Drop)]
 pub enum PieceErr {

@@ -8,7 +8,7 @@ ghost use Rattle.piece_grammar.specs.PlainPiece.{piece_name as name_of_piece};
 ghost use Rattle.piece_grammar.specs.Pieces.{turn_behind, AreAll, AreFew, IsGathering, words_of};
 ghost use Rattle.piece_file.specs.HeadView.{head_view};
 ghost use Rattle.piece_file.specs.PieceView.{piece_view};
-ghost use Rattle.piece_file.specs.TurnView.{turn_view};
+ghost use Rattle.piece_file.specs.Asking.{turn_view};
 ghost use Rattle.piece_file.specs.Gathering.{held_in, LoadsTurn, IsNamed, HaveTurns, AreTurns, AreWithin, NamesPiece, Gathers, HasReason};
 
 use crate::fault::PieceErr;
@@ -62,6 +62,7 @@ fn turn_after(pieces: &[Piece], words: u64) -> Option<Turn>
     requires turns { HaveTurns [] (map piece_view pieces.now) }
     requires within { AreWithin (map piece_view pieces.now) }
     requires words { words ≡ words_of (map piece_view pieces.now) }
+    requires few { words ≤ 2 ^ 26 }
     ensures { MatchOption result (AreAll (map piece_view pieces.now))
         (λ turn. (turn_view turn ≡ turn_behind (map piece_view pieces.now)) × AreFew (map piece_view pieces.now)) }
 {

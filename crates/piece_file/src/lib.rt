@@ -1,21 +1,14 @@
 //! Piece files: the local array of one process with the line that tells where it belongs, read and written.
 #![tactic(auto)]
 
-mod array;
-mod array_size;
-mod banner;
 mod checks;
-mod desc;
 mod desc_line;
 mod fault;
 mod gathering;
 mod head;
-mod head_line;
 mod name;
 mod piece;
 mod reading;
-mod stop;
-mod taking;
 mod turn;
 mod writing;
 

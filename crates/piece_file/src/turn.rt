@@ -1,4 +1,6 @@
 //! Whose turn it is where pieces are read one after the other.
+ghost use Rattle.std.specs.Prelude.{◌≤◌, ◌^◌};
+
 use crate::head::Head;
 
 /// What is asked of the next piece: the process row and column that its name tells, the head of the first piece where this
@@ -9,4 +11,5 @@ pub(crate) struct Turn {
     pub(crate) pcol: u32,
     pub(crate) first: Option<Head>,
     pub(crate) before: u64,
+    pub(crate) ghost few: { before ≤ 2 ^ 26 },
 }

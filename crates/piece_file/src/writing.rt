@@ -1,7 +1,7 @@
 //! Writing a piece to a store.
 ghost use Rattle.std.specs.Prelude.{◌≡◌, ◌≤◌, ◌++◌, ◌∷◌, [], IsTrue};
 ghost use Rattle.std.specs.List.{flat_map};
-ghost use Rattle.text_io.specs.Writing.{Puts, Writes};
+ghost use Rattle.text_io.specs.Writing.{Puts};
 ghost use Rattle.text_io.specs.Saving.{Saves, SavesCause, OpensOnce, LeavesOpen};
 ghost use Rattle.line_text.specs.Lines.{ended, text_of_lines};
 ghost use Rattle.piece_grammar.specs.Head.{IsHead, array_columns, array_of};
@@ -22,9 +22,7 @@ use text_io::{Pen, Text, save};
 #[tactic(auto, using(crate::proofs::WritingLaws::puts_spaced, crate::proofs::WritingLaws::front_spaced, crate::proofs::WritingLaws::front_space))]
 fn put_spaced<S: Store>(pen: &mut Pen, store: &mut S, number: u32) -> Result<(), StoreErr>
     requires { IsTrue (S.state store.old).writing }
-    ensures puts { IsTrue (S.state store.old).told →
-        Puts result (S.state store.old) (S.state store.new) pen.old pen.new (spaced number) }
-    ensures writes { Writes result (S.state store.old) (S.state store.new) }
+    ensures { Puts result (S.state store.old) (S.state store.new) pen.old pen.new (spaced number) }
 {
     pen.put(store, b" ")?;
     let mut buffer = Buffer::new();
@@ -35,10 +33,8 @@ fn put_spaced<S: Store>(pen: &mut Pen, store: &mut S, number: u32) -> Result<(),
 #[tactic(auto, using(text_io::proofs::Putting::puts_none, crate::proofs::WritingLaws::puts_number, crate::proofs::WritingLaws::front_number, crate::proofs::WritingLaws::all_numbers))]
 fn put_numbers<S: Store>(pen: &mut Pen, store: &mut S, numbers: &[u32]) -> Result<(), StoreErr>
     requires { IsTrue (S.state store.old).writing }
-    ensures puts { IsTrue (S.state store.old).told →
-        Puts result (S.state store.old) (S.state store.new) pen.old pen.new
+    ensures { Puts result (S.state store.old) (S.state store.new) pen.old pen.new
         (flat_map spaced numbers.now) }
-    ensures writes { Writes result (S.state store.old) (S.state store.new) }
 {
     for number in numbers {
         put_spaced(pen, store, *number)?;
@@ -49,9 +45,7 @@ fn put_numbers<S: Store>(pen: &mut Pen, store: &mut S, numbers: &[u32]) -> Resul
 #[tactic(auto, unfolding(piece_grammar::specs::Desc::desc_word))]
 fn put_desc_word<S: Store>(pen: &mut Pen, store: &mut S) -> Result<(), StoreErr>
     requires { IsTrue (S.state store.old).writing }
-    ensures puts { IsTrue (S.state store.old).told →
-        Puts result (S.state store.old) (S.state store.new) pen.old pen.new desc_word }
-    ensures writes { Writes result (S.state store.old) (S.state store.new) }
+    ensures { Puts result (S.state store.old) (S.state store.new) pen.old pen.new desc_word }
 {
     pen.put(store, b"%DESC")
 }
@@ -59,10 +53,8 @@ fn put_desc_word<S: Store>(pen: &mut Pen, store: &mut S) -> Result<(), StoreErr>
 #[tactic(auto, unfolding(piece_grammar::specs::PlainPiece::desc_numbers))]
 fn put_desc_numbers<S: Store>(pen: &mut Pen, store: &mut S, head: &Head) -> Result<(), StoreErr>
     requires { IsTrue (S.state store.old).writing }
-    ensures puts { IsTrue (S.state store.old).told →
-        Puts result (S.state store.old) (S.state store.new) pen.old pen.new
+    ensures { Puts result (S.state store.old) (S.state store.new) pen.old pen.new
         (desc_numbers (head_view head.now)) }
-    ensures writes { Writes result (S.state store.old) (S.state store.new) }
 {
     put_numbers(pen, store, &head.numbers())
 }
@@ -70,10 +62,8 @@ fn put_desc_numbers<S: Store>(pen: &mut Pen, store: &mut S, head: &Head) -> Resu
 #[tactic(auto, using(text_io::proofs::Putting::puts_then, text_io::proofs::Putting::front_then, text_io::proofs::Putting::front_more))]
 fn put_desc_words<S: Store>(pen: &mut Pen, store: &mut S, head: &Head) -> Result<(), StoreErr>
     requires { IsTrue (S.state store.old).writing }
-    ensures puts { IsTrue (S.state store.old).told →
-        Puts result (S.state store.old) (S.state store.new) pen.old pen.new
+    ensures { Puts result (S.state store.old) (S.state store.new) pen.old pen.new
         (desc_line (head_view head.now)) }
-    ensures writes { Writes result (S.state store.old) (S.state store.new) }
 {
     put_desc_word(pen, store)?;
     put_desc_numbers(pen, store, head)
@@ -83,10 +73,8 @@ fn put_desc_words<S: Store>(pen: &mut Pen, store: &mut S, head: &Head) -> Result
 #[tactic(auto, using(text_io::proofs::Putting::puts_then, text_io::proofs::Putting::front_then, text_io::proofs::Putting::front_more))]
 fn put_desc<S: Store>(pen: &mut Pen, store: &mut S, head: &Head) -> Result<(), StoreErr>
     requires { IsTrue (S.state store.old).writing }
-    ensures puts { IsTrue (S.state store.old).told →
-        Puts result (S.state store.old) (S.state store.new) pen.old pen.new
+    ensures { Puts result (S.state store.old) (S.state store.new) pen.old pen.new
         (ended (desc_line (head_view head.now))) }
-    ensures writes { Writes result (S.state store.old) (S.state store.new) }
 {
     put_desc_words(pen, store, head)?;
     pen.put(store, b"\n")
@@ -101,10 +89,8 @@ fn put_rest<S: Store, C: Cells>(
     cells: &C,
 ) -> Result<(), StoreErr>
     requires { IsTrue (S.state store.old).writing }
-    ensures puts { IsTrue (S.state store.old).told →
-        Puts result (S.state store.old) (S.state store.new) pen.old pen.new
+    ensures { Puts result (S.state store.old) (S.state store.new) pen.old pen.new
         (ended (desc_line (head_view head.now)) ++ text_of_lines (cell_lines (C.matrix cells.now))) }
-    ensures writes { Writes result (S.state store.old) (S.state store.new) }
 {
     put_desc(pen, store, head)?;
     put_cells(pen, store, cells)

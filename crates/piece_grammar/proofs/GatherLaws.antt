@@ -1,5 +1,5 @@
 -- The pieces of a prefix are what the function gives, and nothing else.
-use Rattle.std.proofs.Common.{◌≡◌, ℕ, zero, suc, ◌+◌, ◌-◌, ◌*◌, ◌<◌, ◌≤◌, List, [], ◌∷◌, ◌++◌, length, Option, Some, None, Result, Ok, Err, refl, sym, ap, subst, ◌∙◌, append_assoc, arith}
+use Rattle.std.proofs.Common.{◌≡◌, ℕ, zero, suc, ◌+◌, ◌-◌, ◌*◌, ◌<◌, ◌≤◌, List, [], ◌∷◌, ◌++◌, length, Option, Some, None, Result, Ok, Err, refl, sym, ap, subst, ◌∙◌, append_assoc, append-nil, arith}
 use Rattle.std.proofs.lemmas.List.{length-append}
 use Rattle.piece_grammar.specs.Head.{Piece}
 use Rattle.piece_grammar.specs.Desc.{desc_of_head}
@@ -10,16 +10,9 @@ use Rattle.piece_grammar.specs.Pieces.{Held, turn_behind, name_of, wanted, AreAl
 use Rattle.piece_grammar.proofs.Heads.{IsOnGrid, on_grid}
 use Rattle.piece_grammar.proofs.Laws.{reading}
 
-abbrev joined : List Piece → List Piece → List Piece
-joined a b = a ++ b
-
 -- one piece more is held
 pub held_more : (held : Held) (prefix : List ℕ) (before pieces : List Piece) (p : Piece) → AreHeldBehind held prefix before pieces → HoldsPiece held prefix (turn_behind (before ++ pieces)) p → AreHeldBehind held prefix before (pieces ++ p ∷ [])
-held_more held prefix before [] p all is = (subst (λ (ps : List Piece). HoldsPiece held prefix (turn_behind ps) p) (nothing_more before) is, tt)
-  where
-    nothing_more : (ps : List Piece) → joined ps [] ≡ ps
-    nothing_more [] = refl
-    nothing_more (q ∷ qs) = ap (λ (rs : List Piece). q ∷ rs) (nothing_more qs)
+held_more held prefix before [] p all is = (subst (λ (ps : List Piece). HoldsPiece held prefix (turn_behind ps) p) (append-nil before) is, tt)
 held_more held prefix before (first ∷ pieces) p all is =
     (all.0, held_more held prefix (before ++ first ∷ []) pieces p all.1 (subst (λ (ps : List Piece). HoldsPiece held prefix (turn_behind ps) p) (sym (append_assoc before (first ∷ []) pieces)) is))
 
@@ -56,10 +49,10 @@ so_on held prefix (suc left) first more all count =
 some_process : (a b : ℕ) → 1 ≤ a → 1 ≤ b → 1 ≤ a * b
 some_process a b p q = grind arith
 
-pub some_wanted : (held : Held) (prefix : List ℕ) (turn : Turn) (p : Piece) → HoldsPiece held prefix turn p → 1 ≤ wanted p.head
+some_wanted : (held : Held) (prefix : List ℕ) (turn : Turn) (p : Piece) → HoldsPiece held prefix turn p → 1 ≤ wanted p.head
 some_wanted held prefix turn p is = let on : IsOnGrid (desc_of_head p.head) = on_grid (desc_of_head p.head) is.is_piece.piece.is_desc.on_grid in some_process p.head.nprow p.head.npcol on.some_rows on.some_columns
 
-pub is_so : (held : Held) (prefix : List ℕ) → IsGathered held prefix (gather held prefix)
+is_so : (held : Held) (prefix : List ℕ) → IsGathered held prefix (gather held prefix)
 unfolding gather
 is_so held prefix =
     on_turn held prefix [] (λ first. gather_on held prefix (wanted first.head - 1) (first ∷ [])) tt tt
@@ -80,11 +73,7 @@ fault_taken held prefix name turn next bytes r is there e =
 
 walked : (held : Held) (prefix : List ℕ) (before pieces : List Piece) (left n : ℕ) → AreHeldBehind held prefix before pieces → n ≡ length pieces + left → gather_on held prefix n before ≡ gather_on held prefix left (before ++ pieces)
 unfolding gather_on
-walked held prefix before [] left n all e = ap (λ (k : ℕ). gather_on held prefix k before) (let same : n ≡ left = omega arith in same) ∙ ap (gather_on held prefix left) (sym (nothing_more before))
-  where
-    nothing_more : (ps : List Piece) → joined ps [] ≡ ps
-    nothing_more [] = refl
-    nothing_more (q ∷ qs) = ap (λ (rs : List Piece). q ∷ rs) (nothing_more qs)
+walked held prefix before [] left n all e = ap (λ (k : ℕ). gather_on held prefix k before) (let same : n ≡ left = omega arith in same) ∙ ap (gather_on held prefix left) (sym (append-nil before))
 walked held prefix before (p ∷ pieces) left n all e =
     ap (λ (k : ℕ). gather_on held prefix k before) (let same : n ≡ suc (length pieces + left) = omega arith in same)
     ∙ piece_taken held prefix (turn_behind before) p (λ (q : Piece). gather_on held prefix (length pieces + left) (before ++ q ∷ [])) all.0
@@ -97,41 +86,28 @@ walked_from held prefix first more left all e =
     piece_taken held prefix (turn_behind []) first (λ (f : Piece). gather_on held prefix (wanted f.head - 1) (f ∷ [])) all.0
     ∙ walked held prefix (first ∷ []) more left (wanted first.head - 1) all.1 (omega arith)
 
-none_left : (held : Held) (prefix : List ℕ) (before : List Piece) → gather_on held prefix 0 before ≡ Whole before
-unfolding gather_on
-none_left held prefix before = refl
-
-one_left : (held : Held) (prefix : List ℕ) (left : ℕ) (before : List Piece) → gather_on held prefix (suc left) before ≡ take_turn held prefix (turn_behind before) (λ p. gather_on held prefix left (before ++ p ∷ []))
-unfolding gather_on
-one_left held prefix left before = refl
-
-at_first : (held : Held) (prefix : List ℕ) → gather held prefix ≡ take_turn held prefix (turn_behind []) (λ first. gather_on held prefix (wanted first.head - 1) (first ∷ []))
-unfolding gather
-at_first held prefix = refl
-
 only_whole : (held : Held) (prefix : List ℕ) (pieces : List Piece) → AreHeld held prefix pieces → AreAll pieces → gather held prefix ≡ Whole pieces
+unfolding gather_on
 only_whole held prefix [] all count = absurd count
-only_whole held prefix (first ∷ more) all count = walked_from held prefix first more 0 all (let c : suc (length more) ≡ wanted first.head = count in omega arith) ∙ none_left held prefix (first ∷ more)
+only_whole held prefix (first ∷ more) all count = walked_from held prefix first more 0 all (let c : suc (length more) ≡ wanted first.head = count in omega arith)
 
-only_missing : (held : Held) (prefix name : List ℕ) (before : List Piece) → AreHeld held prefix before → AreFew before → name ≡ name_of prefix (turn_behind before) → held name ≡ None → gather held prefix ≡ Missing name
-only_missing held prefix name [] all few is none = at_first held prefix ∙ none_taken held prefix name (turn_behind []) _ is none
-only_missing held prefix name (first ∷ more) all few is none =
+-- after some pieces it is the next one's turn
+next_turn : (held : Held) (prefix : List ℕ) (before : List Piece) → AreHeld held prefix before → AreFew before → (next : Piece → Gathered) × (gather held prefix ≡ take_turn held prefix (turn_behind before) next)
+unfolding gather gather_on
+next_turn held prefix [] all few = (λ (first : Piece). gather_on held prefix (wanted first.head - 1) (first ∷ []), refl)
+next_turn held prefix (first ∷ more) all few =
     let less : suc (length more) < wanted first.head = few in
     let left : ℕ = wanted first.head - suc (suc (length more)) in
-    walked_from held prefix first more (suc left) all (omega arith) ∙ one_left held prefix left (first ∷ more) ∙ none_taken held prefix name (turn_behind (first ∷ more)) _ is none
+    (λ (p : Piece). gather_on held prefix left ((first ∷ more) ++ p ∷ []), walked_from held prefix first more (suc left) all (omega arith))
 
-only_bad : (held : Held) (prefix name : List ℕ) (before : List Piece) (bytes : List ℕ) (r : Refusal) → AreHeld held prefix before → AreFew before → name ≡ name_of prefix (turn_behind before) → held name ≡ Some bytes → read_text (turn_behind before) bytes ≡ Err r
-    → gather held prefix ≡ Bad name r
-only_bad held prefix name [] bytes r all few is there e = at_first held prefix ∙ fault_taken held prefix name (turn_behind []) _ bytes r is there e
-only_bad held prefix name (first ∷ more) bytes r all few is there e =
-    let less : suc (length more) < wanted first.head = few in
-    let left : ℕ = wanted first.head - suc (suc (length more)) in
-    walked_from held prefix first more (suc left) all (omega arith) ∙ one_left held prefix left (first ∷ more) ∙ fault_taken held prefix name (turn_behind (first ∷ more)) _ bytes r is there e
-
-pub only : (held : Held) (prefix : List ℕ) (g : Gathered) → IsGathered held prefix g → gather held prefix ≡ g
+only : (held : Held) (prefix : List ℕ) (g : Gathered) → IsGathered held prefix g → gather held prefix ≡ g
 only held prefix (Whole pieces) is = only_whole held prefix pieces is.0 is.1
-only held prefix (Missing name) is = only_missing held prefix name is.before is.are_held is.are_few is.name_is is.is_missing
-only held prefix (Bad name r) is = only_bad held prefix name is.before is.bytes r is.are_held is.are_few is.name_is is.is_held ((reading (turn_behind is.before)).finds is.bytes r is.is_fault)
+only held prefix (Missing name) is =
+    let n = next_turn held prefix is.before is.are_held is.are_few in
+    n.1 ∙ none_taken held prefix name (turn_behind is.before) n.0 is.name_is is.is_missing
+only held prefix (Bad name r) is =
+    let n = next_turn held prefix is.before is.are_held is.are_few in
+    n.1 ∙ fault_taken held prefix name (turn_behind is.before) n.0 is.bytes r is.name_is is.is_held ((reading (turn_behind is.before)).finds is.bytes r is.is_fault)
 
 pub gathering : (held : Held) (prefix : List ℕ) → IsGathering held prefix
 gathering held prefix = record { is_so = is_so held prefix; only = only held prefix }

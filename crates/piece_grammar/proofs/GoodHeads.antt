@@ -11,7 +11,7 @@ use Rattle.descriptor.specs.InfoOf.{entry, info_of}
 use Rattle.descriptor.proofs.PassLemmas.{not_outside}
 use Rattle.piece_grammar.specs.Head.{Head, IsHead}
 use Rattle.piece_grammar.specs.Desc.{Desc, desc_of_head, head_of, is_off_grid, desc_info, AreHeadsTested}
-use Rattle.piece_grammar.proofs.Heads.{IsOnGrid, on_grid, EightGood, eight_good, all_numbers}
+use Rattle.piece_grammar.proofs.Heads.{IsOnGrid, on_grid, EightGood, eight_good}
 
 -- where the process (p, q) of a grid that is dealt out by rows stands
 pub place_dealt : (nprow npcol p q : ℕ) → 1 ≤ nprow → nprow ≤ 64 → 1 ≤ npcol → npcol ≤ 64 → nprow * npcol ≤ 64 → p < nprow → q < npcol → place_of (dealt_grid R nprow npcol) (dealt_rank R nprow npcol p q) ≡ Some (p, q)
@@ -58,7 +58,7 @@ entries_pass h is =
       lead = ap (λ (o : Option (ℕ × ℕ)). is_outside (pos h.lld) (least_lld h.m h.mb h.rsrc h.nprow (first_or_zero o)) (2 ^ 24)) there ∙ within h.lld (least_lld h.m h.mb h.rsrc h.nprow h.prow) (2 ^ 24) is.lead is.lead_fits;
     })
 
-head_passed : (d : Desc) → is_off_grid d ≡ false → desc_info d ≡ None → IsHead (head_of d)
+head_passed : (d : Desc) → is_off_grid d ≡ false → desc_info d ≡ None → IsHead (head_of d) × (d ≡ desc_of_head (head_of d))
 head_passed d off none =
     let on : IsOnGrid d = on_grid d off in
     let good = eight_good _ _ _ _ _ _ _ _ none in
@@ -74,29 +74,31 @@ head_passed d off none =
     let some_rows : 1 ≤ part d.nprow = on.some_rows in
     let some_columns : 1 ≤ part d.npcol = on.some_columns in
     let rs : part d.rsrc ≤ part d.nprow - 1 = rsrc.2 in
-    let cs : part d.csrc ≤ part d.npcol - 1 = csrc.2 in
-    record {
-      some_rows = on.some_rows;
-      few_rows = on.few_rows;
-      some_columns = on.some_columns;
-      few_columns = on.few_columns;
-      few = on.few;
-      row = on.row;
-      column = on.column;
-      rows_fit = m.2;
-      columns_fit = n.2;
-      some_row_block = mb.1;
-      row_block_fits = mb.2;
-      some_column_block = nb.1;
-      column_block_fits = nb.2;
-      row_source = omega arith;
-      column_source = omega arith;
-      lead = lld.1;
-      lead_fits = lld.2;
-    }
+    let cs : part d.csrc ≤ part d.npcol - 1 = csrc.2 in (
+      record {
+        some_rows = on.some_rows;
+        few_rows = on.few_rows;
+        some_columns = on.some_columns;
+        few_columns = on.few_columns;
+        few = on.few;
+        row = on.row;
+        column = on.column;
+        rows_fit = m.2;
+        columns_fit = n.2;
+        some_row_block = mb.1;
+        row_block_fits = mb.2;
+        some_column_block = nb.1;
+        column_block_fits = nb.2;
+        row_source = omega arith;
+        column_source = omega arith;
+        lead = lld.1;
+        lead_fits = lld.2;
+      },
+      rw (← on.nprow_is, ← on.npcol_is, ← on.prow_is, ← on.pcol_is, ← m.0, ← n.0, ← mb.0, ← nb.0, ← rsrc.0, ← csrc.0, ← lld.0) refl,
+    )
 
 pub tested : AreHeadsTested
 tested = record {
   passes = λ h is. (grid_passes h is, entries_pass h is);
-  passed = λ d off none. (head_passed d off none, all_numbers d off none);
+  passed = head_passed;
 }

@@ -1,28 +1,19 @@
 -- What the tests of a head's line say of the head.
-use Rattle.std.proofs.Common.{◌≡◌, ℕ, ◌-◌, ◌*◌, ◌<◌, ◌≤◌, ◌||◌, Bool, true, false, not, ℤ, pos, negsuc, List, [], ◌∷◌, Option, Some, None, refl, ap, arith, nat_lt}
-use Rattle.std.proofs.lemmas.Bool.{eqb-true, eq-eqb, and_parts, ltb-false}
+use Rattle.std.proofs.Common.{◌≡◌, ℕ, ◌-◌, ◌*◌, ◌<◌, ◌≤◌, ◌&&◌, Bool, true, false, not, ℤ, pos, negsuc, List, [], ◌∷◌, Option, Some, None, refl, subst, arith, nat_lt, nat_eq}
+use Rattle.std.proofs.lemmas.Bool.{eqb-true, eq-eqb, and_parts, or_parts, ltb-false, not-false}
 use Rattle.std.specs.Option.{option_map}
 use Rattle.index_tools.specs.Home.{Layout}
 use Rattle.descriptor.specs.Bounds.{is_outside, part}
 use Rattle.descriptor.specs.InfoOf.{entry, info_of}
 use Rattle.descriptor.specs.declared.info.Info.{Info}
 use Rattle.descriptor.proofs.PassLemmas.{not_outside, info_of-each}
-use Rattle.piece_grammar.specs.Head.{Head, layout_of}
+use Rattle.piece_grammar.specs.Head.{Head}
 use Rattle.piece_grammar.specs.Desc.{Desc, desc_of_head, head_of, is_off_grid, desc_info, is_number, differs_from}
 use Rattle.piece_grammar.specs.Faults.{Fault, DescLine, Disagree, DescEntry, WrongPlace}
 use Rattle.piece_grammar.specs.Turn.{Turn, Agrees}
 use Rattle.piece_grammar.specs.FaultTable.{when, first_fault, disagrees, is_elsewhere, desc_rows}
 
 -- ---- the place on the grid
-
--- five tests that aren't met
-pub five_false : (a b c d e : Bool) → (a || b || c || d || e) ≡ false → (a ≡ false) × (b ≡ false) × (c ≡ false) × (d ≡ false) × (e ≡ false)
-five_false false false false false false h = (refl, refl, refl, refl, refl)
-five_false false false false false true h = absurd cc
-five_false false false false true e h = absurd cc
-five_false false false true d e h = absurd cc
-five_false false true c d e h = absurd cc
-five_false true b c d e h = absurd cc
 
 -- what a number of processes and a place among them are
 pub record IsOnGrid (d : Desc) : Type 0 where
@@ -40,12 +31,15 @@ pub record IsOnGrid (d : Desc) : Type 0 where
 
 pub on_grid : (d : Desc) → is_off_grid d ≡ false → IsOnGrid d
 on_grid d h =
-    let f = five_false (is_outside d.nprow 1 64) (is_outside d.npcol 1 64) (nat_lt 64 (part d.nprow * part d.npcol)) (is_outside d.prow 0 (part d.nprow - 1)) (is_outside d.pcol 0 (part d.npcol - 1)) h in
-    let a = not_outside d.nprow 1 64 f.0 in
-    let b = not_outside d.npcol 1 64 f.1 in
-    let c : part d.nprow * part d.npcol ≤ 64 = ltb-false 64 (part d.nprow * part d.npcol) f.2 in
-    let p = not_outside d.prow 0 (part d.nprow - 1) f.3 in
-    let q = not_outside d.pcol 0 (part d.npcol - 1) f.4 in
+    let at_q = or_parts _ (is_outside d.pcol 0 (part d.npcol - 1)) h in
+    let at_p = or_parts _ (is_outside d.prow 0 (part d.nprow - 1)) at_q.0 in
+    let at_few = or_parts _ (nat_lt 64 (part d.nprow * part d.npcol)) at_p.0 in
+    let at_shape = or_parts (is_outside d.nprow 1 64) (is_outside d.npcol 1 64) at_few.0 in
+    let a = not_outside d.nprow 1 64 at_shape.0 in
+    let b = not_outside d.npcol 1 64 at_shape.1 in
+    let c : part d.nprow * part d.npcol ≤ 64 = ltb-false 64 (part d.nprow * part d.npcol) at_few.1 in
+    let p = not_outside d.prow 0 (part d.nprow - 1) at_p.1 in
+    let q = not_outside d.pcol 0 (part d.npcol - 1) at_q.1 in
     let a1 : 1 ≤ part d.nprow = a.1 in
     let b1 : 1 ≤ part d.npcol = b.1 in
     let p2 : part d.prow ≤ part d.nprow - 1 = p.2 in
@@ -89,19 +83,6 @@ eight_good a b c d e f g h none =
     let k8 = info_of-each h 9 [] k7.1 in
     record { rows = k1.0; columns = k2.0; row_block = k3.0; column_block = k4.0; context = k5.0; row_source = k6.0; column_source = k7.0; lead = k8.0 }
 
--- numbers of a line whose tests all pass are those of a head
-same_desc : (d : Desc) (a b p q m n mb nb rsrc csrc lld : ℤ)
-    → d.nprow ≡ a → d.npcol ≡ b → d.prow ≡ p → d.pcol ≡ q → d.m ≡ m → d.n ≡ n → d.mb ≡ mb → d.nb ≡ nb → d.rsrc ≡ rsrc → d.csrc ≡ csrc → d.lld ≡ lld
-    → d ≡ record { nprow = a; npcol = b; prow = p; pcol = q; m = m; n = n; mb = mb; nb = nb; rsrc = rsrc; csrc = csrc; lld = lld }
-same_desc d a b p q m n mb nb rsrc csrc lld e1 e2 e3 e4 e5 e6 e7 e8 e9 e10 e11 = rw (← e1, ← e2, ← e3, ← e4, ← e5, ← e6, ← e7, ← e8, ← e9, ← e10, ← e11) refl
-
-pub all_numbers : (d : Desc) → is_off_grid d ≡ false → desc_info d ≡ None → d ≡ desc_of_head (head_of d)
-all_numbers d off none =
-    let on : IsOnGrid d = on_grid d off in
-    let good = eight_good _ _ _ _ _ _ _ _ none in
-    same_desc d _ _ _ _ _ _ _ _ _ _ _ on.nprow_is on.npcol_is on.prow_is on.pcol_is (not_outside d.m _ _ good.rows).0 (not_outside d.n _ _ good.columns).0 (not_outside d.mb _ _ good.row_block).0 (not_outside d.nb _ _ good.column_block).0
-    (not_outside d.rsrc _ _ good.row_source).0 (not_outside d.csrc _ _ good.column_source).0 (not_outside d.lld _ _ good.lead).0
-
 -- ---- numbers that are these
 
 number_is : (v : ℤ) (k : ℕ) → is_number v k ≡ true → part v ≡ k
@@ -111,26 +92,17 @@ number_is (negsuc n) k h = absurd cc
 is_that : (n : ℕ) → is_number (pos n) n ≡ true
 is_that n = eq-eqb n n refl
 
-not_not : (b : Bool) → not b ≡ false → b ≡ true
-not_not true h = refl
-not_not false h = absurd cc
-
-same_layout : (l : Layout) (rows columns mb nb rsrc csrc nprow npcol : ℕ) → rows ≡ l.rows → columns ≡ l.columns → mb ≡ l.mb → nb ≡ l.nb → rsrc ≡ l.rsrc → csrc ≡ l.csrc → nprow ≡ l.nprow → npcol ≡ l.npcol
-    → record { rows = rows; columns = columns; mb = mb; nb = nb; rsrc = rsrc; csrc = csrc; nprow = nprow; npcol = npcol } ≡ l
-same_layout l rows columns mb nb rsrc csrc nprow npcol e1 e2 e3 e4 e5 e6 e7 e8 = rw (e1, e2, e3, e4, e5, e6, e7, e8) refl
-
 pub agreed : (first : Option Head) (d : Desc) → disagrees first d ≡ false → Agrees first (head_of d)
 agreed None d h = tt
 agreed (Some first) d h =
-    let k8 = and_parts _ (is_number d.csrc first.csrc) (not_not _ h) in
+    let k8 = and_parts _ (is_number d.csrc first.csrc) (not-false _ h) in
     let k7 = and_parts _ (is_number d.rsrc first.rsrc) k8.0 in
     let k6 = and_parts _ (is_number d.nb first.nb) k7.0 in
     let k5 = and_parts _ (is_number d.mb first.mb) k6.0 in
     let k4 = and_parts _ (is_number d.n first.n) k5.0 in
     let k3 = and_parts _ (is_number d.m first.m) k4.0 in
     let k2 = and_parts (is_number d.nprow first.nprow) (is_number d.npcol first.npcol) k3.0 in
-    same_layout (layout_of first) _ _ _ _ _ _ _ _ (number_is d.m first.m k3.1) (number_is d.n first.n k4.1) (number_is d.mb first.mb k5.1) (number_is d.nb first.nb k6.1)
-    (number_is d.rsrc first.rsrc k7.1) (number_is d.csrc first.csrc k8.1) (number_is d.nprow first.nprow k2.0) (number_is d.npcol first.npcol k2.1)
+    rw (number_is d.m first.m k3.1, number_is d.n first.n k4.1, number_is d.mb first.mb k5.1, number_is d.nb first.nb k6.1, number_is d.rsrc first.rsrc k7.1, number_is d.csrc first.csrc k8.1, number_is d.nprow first.nprow k2.0, number_is d.npcol first.npcol k2.1) refl
 
 own_numbers : (first : Head) → differs_from (desc_of_head first) first ≡ false
 own_numbers first = rw (is_that first.nprow, is_that first.npcol, is_that first.m, is_that first.n, is_that first.mb, is_that first.nb, is_that first.rsrc, is_that first.csrc) refl
@@ -138,18 +110,10 @@ own_numbers first = rw (is_that first.nprow, is_that first.npcol, is_that first.
 pub agrees_on : (first : Option Head) (h : Head) → Agrees first h → disagrees first (desc_of_head h) ≡ false
 agrees_on None h same = refl
 agrees_on (Some first) h same =
-    let a : h.m ≡ first.m = ap (λ (l : Layout). l.rows) same in
-    let b : h.n ≡ first.n = ap (λ (l : Layout). l.columns) same in
-    let c : h.mb ≡ first.mb = ap (λ (l : Layout). l.mb) same in
-    let d : h.nb ≡ first.nb = ap (λ (l : Layout). l.nb) same in
-    let e : h.rsrc ≡ first.rsrc = ap (λ (l : Layout). l.rsrc) same in
-    let f : h.csrc ≡ first.csrc = ap (λ (l : Layout). l.csrc) same in
-    let g : h.nprow ≡ first.nprow = ap (λ (l : Layout). l.nprow) same in
-    let i : h.npcol ≡ first.npcol = ap (λ (l : Layout). l.npcol) same in
-    rw (eq-eqb h.m first.m a, eq-eqb h.n first.n b, eq-eqb h.mb first.mb c, eq-eqb h.nb first.nb d, eq-eqb h.rsrc first.rsrc e, eq-eqb h.csrc first.csrc f, eq-eqb h.nprow first.nprow g, eq-eqb h.npcol first.npcol i) refl
+    subst (λ (l : Layout). not (nat_eq h.nprow l.nprow && nat_eq h.npcol l.npcol && nat_eq h.m l.rows && nat_eq h.n l.columns && nat_eq h.mb l.mb && nat_eq h.nb l.nb && nat_eq h.rsrc l.rsrc && nat_eq h.csrc l.csrc) ≡ false) same (own_numbers h)
 
 pub here : (turn : Turn) (d : Desc) → is_elsewhere turn d ≡ false → (part d.prow ≡ turn.prow) × (part d.pcol ≡ turn.pcol)
-here turn d h = let k = and_parts (is_number d.prow turn.prow) (is_number d.pcol turn.pcol) (not_not _ h) in (number_is d.prow turn.prow k.0, number_is d.pcol turn.pcol k.1)
+here turn d h = let k = and_parts (is_number d.prow turn.prow) (is_number d.pcol turn.pcol) (not-false _ h) in (number_is d.prow turn.prow k.0, number_is d.pcol turn.pcol k.1)
 
 pub is_here : (turn : Turn) (h : Head) → h.prow ≡ turn.prow → h.pcol ≡ turn.pcol → is_elsewhere turn (desc_of_head h) ≡ false
 is_here turn h row column = rw (eq-eqb h.prow turn.prow row, eq-eqb h.pcol turn.pcol column) refl

@@ -1,125 +1,58 @@
 -- The parts of a piece describe its format: all laws of formats hold of it.
-use Rattle.std.proofs.Common.{◌≡◌, ℕ, suc, ◌+◌, ◌^◌, ◌≤◌, Bool, true, false, cond, ℤ, List, [], ◌∷◌, ◌++◌, length, Result, Ok, Err, refl, sym, ap, subst, ◌∙◌, append_assoc, append-nil, arith}
-use mathlib.Core.Logic.{inl, inr}
-use Rattle.std.specs.List.{AllByRecursion}
-use Rattle.std.proofs.lemmas.List.{length-append}
+use Rattle.std.proofs.Common.{◌≡◌, ◌+◌, ◌^◌, ◌≤◌, Bool, true, false, cond, ℤ, List, ◌∷◌, length, Result, Ok, Err, refl, sym, ap, subst, ◌∙◌, arith}
+use Rattle.std.proofs.lemmas.Bool.{eq-eqb}
 use Rattle.line_text.specs.FormatMeaning as meaning
 use Rattle.line_text.specs.FormatLaws.{Describes}
-use Rattle.line_text.proofs.FormatSteps.{leads_append}
+use Rattle.line_text.proofs.Answers.{ok_is}
 use Rattle.line_text.proofs.FormatReadings as readings
 use Rattle.line_text.proofs.FormatLaws as laws
 use Rattle.mm_grammar.specs.Width.{width32}
 use Rattle.mm_grammar.specs.Matrix.{Matrix}
 use Rattle.mm_grammar.specs.Faults.{Fault as MatrixFault, TooFew}
 use Rattle.mm_grammar.specs.FileLines.{Line}
-use Rattle.mm_grammar.specs.Symmetry.{Symmetry, General}
-use Rattle.mm_grammar.specs.Parts.{Header, wanted, banner_of}
-use Rattle.mm_grammar.specs.MatrixText.{IsBannerLine, IsBetweenLine, HoldsValues, Opens, IsAccepted, matrix_of}
+use Rattle.mm_grammar.specs.Symmetry.{General}
+use Rattle.mm_grammar.specs.Parts.{Header, wanted}
+use Rattle.mm_grammar.specs.MatrixText.{IsBannerLine, IsAccepted, matrix_of}
 use Rattle.mm_grammar.specs.Place as at
 use Rattle.mm_grammar.specs.MatrixFault as matrix
 use Rattle.mm_grammar.specs.Reading as matrix_reading
+use Rattle.mm_grammar.proofs.Steps as matrix_steps
 use Rattle.mm_grammar.proofs.Laws as matrix_laws
 use Rattle.piece_grammar.specs.Head.{Head, Piece, array_of, array_columns, array_words}
-use Rattle.piece_grammar.specs.Faults.{Fault}
 use Rattle.piece_grammar.specs.Turn.{Turn, HasTurn}
 use Rattle.piece_grammar.specs.PieceText.{IsPiece, IsPieceAt}
 use Rattle.piece_grammar.specs.Place.{Place, AtBanner, AtDesc, Behind}
 use Rattle.piece_grammar.specs.FaultTable.{piece_faults}
 use Rattle.piece_grammar.specs.PieceReading.{ended_array, at_end, piece_format}
 use Rattle.piece_grammar.specs.PieceFault.{HasArray, Stands, LeadsTo, IsReading, IsDecided, IsFirst}
-use Rattle.piece_grammar.proofs.Steps.{leads_on}
+use Rattle.piece_grammar.proofs.Steps.{leads_on, banner_step, desc_step_on, carried}
 use Rattle.piece_grammar.proofs.Table.{line_fails, end_fails}
-use Rattle.piece_grammar.proofs.LineKinds.{banner_step, desc_step_on, between_step, size_step, blank_step, value_step, stored_end}
 
 -- ---- lines that stand in the parts are taken
 
-between : (turn : Turn) (head : Head) (kind : Symmetry) (lines : List Line) (n : ℕ) → AllByRecursion IsBetweenLine lines
-    → meaning.LeadsFrom (piece_format turn) n (Behind head (at.AtSize kind)) lines (Behind head (at.AtSize kind))
-between turn head kind [] n all = refl
-between turn head kind (line ∷ more) n all = (Behind head (at.AtSize kind), between_step turn head kind line all.0, between turn head kind more (suc n) all.1)
-
-values : (turn : Turn) (head : Head) (header : Header) (body : List Line) (old vs : List ℤ) (n : ℕ) → HoldsValues width32 header body vs → length old + length vs ≤ wanted header
-    → meaning.LeadsFrom (piece_format turn) n (Behind head (at.AtValues header old)) body (Behind head (at.AtValues header (old ++ vs)))
-values turn head header [] old vs n holds most = ap (λ (us : List ℤ). Behind head (at.AtValues header us)) (sym (ap (λ (us : List ℤ). old ++ us) holds ∙ append-nil old))
-values turn head header (line ∷ body) old vs n (inl blank) most =
-    (Behind head (at.AtValues header old), blank_step turn head header old line blank.0, values turn head header body old vs (suc n) blank.1 most)
-values turn head header (line ∷ body) old vs n (inr value) most =
-    let long : length vs ≡ suc (length value.1) = ap (λ (us : List ℤ). length us) value.2 in
-    let longer : length (old ++ value.0 ∷ []) ≡ length old + 1 = length-append old (value.0 ∷ []) in
-    let same : (old ++ value.0 ∷ []) ++ value.1 ≡ old ++ vs = append_assoc old (value.0 ∷ []) value.1 ∙ ap (λ (us : List ℤ). old ++ us) (sym value.2) in (
-      Behind head (at.AtValues header (old ++ value.0 ∷ [])),
-      value_step turn head header old value.0 line value.3 (omega arith),
-      subst (λ (us : List ℤ). meaning.LeadsFrom (piece_format turn) (suc n) (Behind head (at.AtValues header (old ++ value.0 ∷ []))) body (Behind head (at.AtValues header us))) same
-          (values turn head header body (old ++ value.0 ∷ []) value.1 (suc n) value.4 (omega arith)),
-    )
-
-abbrev lines_of : List Line → List Line
-lines_of ls = ls
-
-first_of : (a b : Line) (ls ms : List Line) → lines_of (a ∷ ls) ≡ lines_of (b ∷ ms) → a ≡ b
-first_of a b ls ms e = cc
-
-rest_of : (a b : Line) (ls ms : List Line) → lines_of (a ∷ ls) ≡ lines_of (b ∷ ms) → ls ≡ ms
-rest_of a b ls ms e = cc
-
-abbrev named : Symmetry → Result Symmetry MatrixFault
-named kind = Ok kind
-
-kind_is : (j k : Symmetry) → named j ≡ named k → j ≡ k
-kind_is j k e = cc
-
--- two banners that are one
-same_kind : (a b : Line) (j k : Symmetry) → a ≡ b → IsBannerLine j a → IsBannerLine k b → k ≡ j
-same_kind a b j k same x y = kind_is k j (sym y.names ∙ ap (λ (line : Line). banner_of line.text) (sym same) ∙ x.names)
-
--- the lines after the head's
-parts : (turn : Turn) (head : Head) (banner : Line) (rest : List Line) (place : at.Place) (n : ℕ) → IsBannerLine General banner → matrix.LeadsTo width32 (banner ∷ rest) place → HasArray turn head place
-    → meaning.LeadsFrom (piece_format turn) n (Behind head (at.AtSize General)) rest (Behind head place)
-parts turn head banner rest at.AtBanner n is none a = absurd cc
-parts turn head banner rest (at.AtSize kind) n is b a =
-    let general : kind ≡ General = same_kind banner b.banner General kind (first_of banner b.banner rest b.between b.whole) is b.is_banner in
-    let same : rest ≡ b.between = rest_of banner b.banner rest b.between b.whole in
-    subst (λ (ls : List Line). meaning.LeadsFrom (piece_format turn) n (Behind head (at.AtSize General)) ls (Behind head (at.AtSize kind))) (sym same)
-    (subst (λ (s : Symmetry). meaning.LeadsFrom (piece_format turn) n (Behind head (at.AtSize s)) b.between (Behind head (at.AtSize kind))) general (between turn head kind b.between n b.are_between))
-parts turn head banner rest (at.AtValues header stored) n is h a =
-    let o : Opens width32 (banner ∷ rest) header h.body = h.opens in
-    let general : header.symmetry ≡ General = same_kind banner o.banner General header.symmetry (first_of banner o.banner rest (o.between ++ o.size ∷ h.body) o.whole) is o.is_banner in
-    let same : rest ≡ o.between ++ o.size ∷ h.body = rest_of banner o.banner rest (o.between ++ o.size ∷ h.body) o.whole in
-    let most : length stored ≤ wanted header = h.count in
-    subst (λ (ls : List Line). meaning.LeadsFrom (piece_format turn) n (Behind head (at.AtSize General)) ls (Behind head (at.AtValues header stored))) (sym same)
-    (subst (λ (s : Symmetry). meaning.LeadsFrom (piece_format turn) n (Behind head (at.AtSize s)) (o.between ++ o.size ∷ h.body) (Behind head (at.AtValues header stored))) general
-    (leads_append (piece_format turn) n (n + length o.between) (Behind head (at.AtSize header.symmetry)) (Behind head (at.AtSize header.symmetry)) (Behind head (at.AtValues header stored)) o.between (o.size ∷ h.body)
-    (between turn head header.symmetry o.between n o.are_between) refl
-    (Behind head (at.AtValues header []), size_step turn head header stored o.size a o.is_size_line, values turn head header h.body [] stored (suc (n + length o.between)) h.holds (omega arith))))
+parts : (turn : Turn) (head : Head) (banner : Line) (rest : List Line) (place : at.Place) → IsBannerLine General banner → matrix.LeadsTo width32 (banner ∷ rest) place → HasArray turn head place
+    → meaning.LeadsFrom (piece_format turn) 3 (Behind head (at.AtSize General)) rest (Behind head place)
+parts turn head banner rest place is stand a =
+    let l = matrix_laws.leads width32 (banner ∷ rest) place stand in
+    let first : l.0 ≡ at.AtSize General = ok_is l.0 (at.AtSize General) (sym l.1 ∙ matrix_steps.banner_step width32 General banner is) in
+    subst (λ (p : at.Place). meaning.LeadsFrom (piece_format turn) 3 (Behind head p) rest (Behind head place)) first (carried turn head rest 2 3 l.0 place l.2 a).1
 
 leads : (turn : Turn) (before : List Line) (place : Place) → LeadsTo turn before place → meaning.Leads (piece_format turn) before place
 leads turn before AtBanner stand = subst (λ (ls : List Line). meaning.Leads (piece_format turn) ls AtBanner) (sym stand) refl
 leads turn before AtDesc b = subst (λ (ls : List Line). meaning.Leads (piece_format turn) ls AtDesc) (sym b.whole) (AtDesc, banner_step turn b.banner b.is_banner, refl)
 leads turn before (Behind head place) s =
     subst (λ (ls : List Line). meaning.Leads (piece_format turn) ls (Behind head place)) (sym s.whole)
-    (AtDesc, banner_step turn s.banner s.is_banner, (Behind head (at.AtSize General), desc_step_on turn head s.desc s.is_desc s.row s.column s.agrees, parts turn head s.banner s.rest place 3 s.is_banner s.leads s.array))
+    (AtDesc, banner_step turn s.banner s.is_banner, (Behind head (at.AtSize General), desc_step_on turn head s.desc s.is_desc s.row s.column s.agrees, parts turn head s.banner s.rest place s.is_banner s.leads s.array))
 
 -- ---- the end
 
-abbrev given : Piece → Result Piece Fault
-given p = Ok p
-
-piece_is : (p q : Piece) → given p ≡ given q → q ≡ p
-piece_is p q e = let s : p ≡ q = cc in sym s
-
-abbrev made : Matrix → Result Matrix MatrixFault
-made m = Ok m
-
-matrix_is : (m n : Matrix) → made m ≡ made n → n ≡ m
-matrix_is m n e = let s : m ≡ n = cc in sym s
-
 -- the array of a file that is at its end
 whole_array : (head : Head) (r : Result Matrix MatrixFault) (p : Piece) → ended_array head r ≡ Ok p → (m : Matrix) × (r ≡ Ok m) × (p ≡ record { head = head; words = m.values })
-whole_array head (Ok m) p e = (m, refl, piece_is (record { head = head; words = m.values }) p e)
+whole_array head (Ok m) p e = (m, refl, sym (ok_is (record { head = head; words = m.values }) p e))
 whole_array head (Err fault) p e = absurd cc
 
 stored_matrix : (header : Header) (stored : List ℤ) (t : Bool) (m : Matrix) → cond t (Ok (matrix_of header stored)) (Err (TooFew (length stored) (wanted header))) ≡ Ok m → m ≡ matrix_of header stored
-stored_matrix header stored true m e = matrix_is (matrix_of header stored) m e
+stored_matrix header stored true m e = sym (ok_is (matrix_of header stored) m e)
 stored_matrix header stored false m e = absurd cc
 
 -- it has the size of the head's, and there is room for it
@@ -157,6 +90,11 @@ unfolding at_end
 ends_as turn before AtBanner p stand e = absurd cc
 ends_as turn before AtDesc p stand e = absurd cc
 ends_as turn before (Behind head place) p stand e = piece_end turn before head place p stand e
+
+-- where all values are there
+stored_end : (head : Head) (header : Header) (stored : List ℤ) → length stored ≡ wanted header → at_end (Behind head (at.AtValues header stored)) ≡ Ok (record { head = head; words = (matrix_of header stored).values })
+unfolding at_end matrix_reading.at_end
+stored_end head header stored e = rw (eq-eqb _ _ e) refl
 
 abbrev piece_of : Head → List ℤ → Piece
 piece_of head words = record { head = head; words = words }

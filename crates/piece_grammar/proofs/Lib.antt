@@ -2,7 +2,6 @@ pub mod Rows
 pub mod Table
 pub mod Heads
 pub mod Steps
-pub mod LineKinds
 pub mod Laws
 pub mod GatherLaws
 pub mod GoodHeads

@@ -44,6 +44,9 @@ bad line fault = Err (record { line = line; fault = fault })
 abbrev info : ℕ → Fault
 info n = DescEntry (record { 0 = negsuc n })
 
+abbrev row : Turn → List ℕ → Result Piece Refusal → (Turn × List ℕ × Result Piece Refusal)
+row turn file answer = (turn, file, answer)
+
 -- each file of the table reads at its turn as the answer beside it
 abbrev AllRead : List (Turn × List ℕ × Result Piece Refusal) → Type 0
 AllRead [] = Unit {0}
@@ -52,21 +55,14 @@ AllRead (row ∷ rows) = (read_text row.0 row.1 ≡ row.2) × AllRead rows
 -- The two pieces; the lower one without its last line; with blank lines and comments after its second line; of another process; and of another matrix.
 abbrev pieces_rows : List (Turn × List ℕ × Result Piece Refusal)
 pieces_rows =
-    (alone 0 0, file (codes "%DESC 2 1 0 0 3 2 2 1 0 0 2" ∷ codes "2 2" ∷ codes "1" ∷ codes "2" ∷ codes "4" ∷ codes "5" ∷ []), given upper (pos 1 ∷ pos 2 ∷ pos 4 ∷ pos 5 ∷ []))
-    ∷
-    (second, file (codes "%DESC 2 1 1 0 3 2 2 1 0 0 1" ∷ codes "1 2" ∷ codes "3" ∷ codes "6" ∷ []), given lower (pos 3 ∷ pos 6 ∷ []))
-    ∷
-    (second, file (codes "%DESC 2 1 1 0 3 2 2 1 0 0 1" ∷ codes "1 2" ∷ codes "3" ∷ []), bad 5 (Mm (matrix.TooFew 1 2)))
-    ∷
-    (second, file (codes "%DESC 2 1 1 0 3 2 2 1 0 0 1" ∷ codes "% x" ∷ [] ∷ codes "%DESC" ∷ codes " +1 02" ∷ [] ∷ codes "3" ∷ codes "-6" ∷ [] ∷ []), given lower (pos 3 ∷ negsuc 5 ∷ []))
-    ∷
-    (second, file (codes "%DESC 2 1 0 0 3 2 2 1 0 0 2" ∷ codes "2 2" ∷ codes "1" ∷ codes "2" ∷ codes "4" ∷ codes "5" ∷ []), bad 2 WrongPlace)
-    ∷
-    (second, file (codes "%DESC 2 1 0 0 3 2 3 1 0 0 2" ∷ codes "2 2" ∷ codes "1" ∷ codes "2" ∷ codes "4" ∷ codes "5" ∷ []), bad 2 Disagree)
-    ∷
-    (second, file (codes "%DESC +2\t01 1 -0 3 2 2 1 0 0 16777216" ∷ codes "16777216 2" ∷ codes "3" ∷ []), bad 5 (Mm (matrix.TooFew 1 33554432)))
-    ∷
-    []
+    row (alone 0 0) (file (codes "%DESC 2 1 0 0 3 2 2 1 0 0 2" ∷ codes "2 2" ∷ codes "1" ∷ codes "2" ∷ codes "4" ∷ codes "5" ∷ [])) (given upper (pos 1 ∷ pos 2 ∷ pos 4 ∷ pos 5 ∷ []))
+    ∷ row second (file (codes "%DESC 2 1 1 0 3 2 2 1 0 0 1" ∷ codes "1 2" ∷ codes "3" ∷ codes "6" ∷ [])) (given lower (pos 3 ∷ pos 6 ∷ []))
+    ∷ row second (file (codes "%DESC 2 1 1 0 3 2 2 1 0 0 1" ∷ codes "1 2" ∷ codes "3" ∷ [])) (bad 5 (Mm (matrix.TooFew 1 2)))
+    ∷ row second (file (codes "%DESC 2 1 1 0 3 2 2 1 0 0 1" ∷ codes "% x" ∷ [] ∷ codes "%DESC" ∷ codes " +1 02" ∷ [] ∷ codes "3" ∷ codes "-6" ∷ [] ∷ [])) (given lower (pos 3 ∷ negsuc 5 ∷ []))
+    ∷ row second (file (codes "%DESC 2 1 0 0 3 2 2 1 0 0 2" ∷ codes "2 2" ∷ codes "1" ∷ codes "2" ∷ codes "4" ∷ codes "5" ∷ [])) (bad 2 WrongPlace)
+    ∷ row second (file (codes "%DESC 2 1 0 0 3 2 3 1 0 0 2" ∷ codes "2 2" ∷ codes "1" ∷ codes "2" ∷ codes "4" ∷ codes "5" ∷ [])) (bad 2 Disagree)
+    ∷ row second (file (codes "%DESC +2\t01 1 -0 3 2 2 1 0 0 16777216" ∷ codes "16777216 2" ∷ codes "3" ∷ [])) (bad 5 (Mm (matrix.TooFew 1 33554432)))
+    ∷ []
 
 pieces_are : AllRead pieces_rows
 unfolding below is_outside matrix_reading.step matrix_reading.at_end whole_lines without_end without_return parts not_empty digits_number unsigned_number signed_number lines_behind line_fault symmetry_named expanded banner_words size_words value_words desc_word numbers_of desc_numbered desc_words step at_end read_on
@@ -75,59 +71,33 @@ pieces_are = (refl, (refl, (refl, (refl, (refl, (refl, (refl, tt)))))))
 -- The first two lines and the size.
 abbrev lines_rows : List (Turn × List ℕ × Result Piece Refusal)
 lines_rows =
-    (alone 0 0, [], bad 1 (Mm matrix.Banner))
-    ∷
-    (alone 0 0, text_of_lines (codes "%%MatrixMarket matrix array integer symmetric" ∷ []), bad 1 (Mm matrix.Symmetry))
-    ∷
-    (alone 0 0, text_of_lines (codes "%%MatrixMarket matrix array real symmetric" ∷ []), bad 1 (Mm matrix.Field))
-    ∷
-    (alone 0 0, file [], bad 2 DescLine)
-    ∷
-    (alone 0 0, file (codes "2 2" ∷ []), bad 2 DescLine)
-    ∷
-    (alone 0 0, file (codes "% %DESC 1 1 0 0 1 1 1 1 0 0 1" ∷ []), bad 2 DescLine)
-    ∷
-    (alone 0 0, file (codes " %DESC 1 1 0 0 1 1 1 1 0 0 1" ∷ []), bad 2 DescLine)
-    ∷
-    (alone 0 0, file (codes "%desc 1 1 0 0 1 1 1 1 0 0 1" ∷ []), bad 2 DescLine)
-    ∷
-    (alone 0 0, file (codes "%DESC 1 1 0 0 1 1 1 1 0 0" ∷ []), bad 2 DescLine)
-    ∷
-    (alone 0 0, file (codes "%DESC 1 1 0 0 1 1 1 1 0 0 1 1" ∷ []), bad 2 DescLine)
-    ∷
-    (alone 0 0, file (codes "%DESC 1 1 0 0 1 1 1 1 0 0 2147483648" ∷ []), bad 2 DescLine)
-    ∷
-    (alone 0 0, file (codes "%DESC 8 9 0 0 1 1 1 1 0 0 1" ∷ []), bad 2 DescLine)
-    ∷
-    (alone 0 0, file (codes "%DESC 1 1 1 0 1 1 1 1 0 0 1" ∷ []), bad 2 DescLine)
-    ∷
-    (alone 0 0, file (codes "%DESC 1 1 0 -1 1 1 1 1 0 0 1" ∷ []), bad 2 DescLine)
-    ∷
-    (alone 0 0, file ((37 ∷ 1 ∷ []) ∷ []), bad 2 (Mm matrix.NotText))
-    ∷
-    (alone 0 0, file (codes "%DESC 1 1 0 0 -1 1 0 1 0 0 1" ∷ []), bad 2 (info 1))
-    ∷
-    (alone 0 0, file (codes "%DESC 1 1 0 0 1 1 1 0 1 0 1" ∷ []), bad 2 (info 4))
-    ∷
-    (alone 0 0, file (codes "%DESC 1 1 0 0 1 1 1 1 1 0 1" ∷ []), bad 2 (info 5))
-    ∷
-    (alone 0 0, file (codes "%DESC 1 1 0 0 1 1 1 1 0 -1 1" ∷ []), bad 2 (info 6))
-    ∷
-    (alone 1 0, file (codes "%DESC 2 1 0 0 3 2 2 1 0 0 1" ∷ []), bad 2 (info 8))
-    ∷
-    (alone 0 0, file (codes "%DESC 1 1 0 0 1 1 1 1 0 0 1" ∷ []), bad 3 (Mm matrix.Size))
-    ∷
-    (alone 0 0, file (codes "%DESC 1 1 0 0 1 1 1 1 0 0 1" ∷ codes "1" ∷ []), bad 3 (Mm matrix.Size))
-    ∷
-    (alone 0 0, file (codes "%DESC 1 1 0 0 0 0 1 1 0 0 1" ∷ codes "0 0" ∷ []), bad 3 (Shape 0 0 1 1))
-    ∷
-    (alone 0 0, file (codes "%DESC 1 1 0 0 0 0 1 1 0 0 1" ∷ codes "1 1" ∷ codes "7" ∷ []), given (record { nprow = 1; npcol = 1; prow = 0; pcol = 0; m = 0; n = 0; mb = 1; nb = 1; rsrc = 0; csrc = 0; lld = 1 }) (pos 7 ∷ []))
-    ∷
-    (record { prow = 0; pcol = 0; first = None; before = 2 ^ 26 - 1 }, file (codes "%DESC 1 1 0 0 1 2 1 1 0 0 1" ∷ codes "1 2" ∷ []), bad 3 (TooLarge (2 ^ 26 + 1)))
-    ∷
-    (record { prow = 0; pcol = 0; first = None; before = 2 ^ 26 - 2 }, file (codes "%DESC 1 1 0 0 1 2 1 1 0 0 1" ∷ codes "1 2" ∷ codes "x" ∷ []), bad 4 (Mm matrix.Value))
-    ∷
-    []
+    row (alone 0 0) [] (bad 1 (Mm matrix.Banner))
+    ∷ row (alone 0 0) (text_of_lines (codes "%%MatrixMarket matrix array integer symmetric" ∷ [])) (bad 1 (Mm matrix.Symmetry))
+    ∷ row (alone 0 0) (text_of_lines (codes "%%MatrixMarket matrix array real symmetric" ∷ [])) (bad 1 (Mm matrix.Field))
+    ∷ row (alone 0 0) (file []) (bad 2 DescLine)
+    ∷ row (alone 0 0) (file (codes "2 2" ∷ [])) (bad 2 DescLine)
+    ∷ row (alone 0 0) (file (codes "% %DESC 1 1 0 0 1 1 1 1 0 0 1" ∷ [])) (bad 2 DescLine)
+    ∷ row (alone 0 0) (file (codes " %DESC 1 1 0 0 1 1 1 1 0 0 1" ∷ [])) (bad 2 DescLine)
+    ∷ row (alone 0 0) (file (codes "%desc 1 1 0 0 1 1 1 1 0 0 1" ∷ [])) (bad 2 DescLine)
+    ∷ row (alone 0 0) (file (codes "%DESC 1 1 0 0 1 1 1 1 0 0" ∷ [])) (bad 2 DescLine)
+    ∷ row (alone 0 0) (file (codes "%DESC 1 1 0 0 1 1 1 1 0 0 1 1" ∷ [])) (bad 2 DescLine)
+    ∷ row (alone 0 0) (file (codes "%DESC 1 1 0 0 1 1 1 1 0 0 2147483648" ∷ [])) (bad 2 DescLine)
+    ∷ row (alone 0 0) (file (codes "%DESC 8 9 0 0 1 1 1 1 0 0 1" ∷ [])) (bad 2 DescLine)
+    ∷ row (alone 0 0) (file (codes "%DESC 1 1 1 0 1 1 1 1 0 0 1" ∷ [])) (bad 2 DescLine)
+    ∷ row (alone 0 0) (file (codes "%DESC 1 1 0 -1 1 1 1 1 0 0 1" ∷ [])) (bad 2 DescLine)
+    ∷ row (alone 0 0) (file ((37 ∷ 1 ∷ []) ∷ [])) (bad 2 (Mm matrix.NotText))
+    ∷ row (alone 0 0) (file (codes "%DESC 1 1 0 0 -1 1 0 1 0 0 1" ∷ [])) (bad 2 (info 1))
+    ∷ row (alone 0 0) (file (codes "%DESC 1 1 0 0 1 1 1 0 1 0 1" ∷ [])) (bad 2 (info 4))
+    ∷ row (alone 0 0) (file (codes "%DESC 1 1 0 0 1 1 1 1 1 0 1" ∷ [])) (bad 2 (info 5))
+    ∷ row (alone 0 0) (file (codes "%DESC 1 1 0 0 1 1 1 1 0 -1 1" ∷ [])) (bad 2 (info 6))
+    ∷ row (alone 1 0) (file (codes "%DESC 2 1 0 0 3 2 2 1 0 0 1" ∷ [])) (bad 2 (info 8))
+    ∷ row (alone 0 0) (file (codes "%DESC 1 1 0 0 1 1 1 1 0 0 1" ∷ [])) (bad 3 (Mm matrix.Size))
+    ∷ row (alone 0 0) (file (codes "%DESC 1 1 0 0 1 1 1 1 0 0 1" ∷ codes "1" ∷ [])) (bad 3 (Mm matrix.Size))
+    ∷ row (alone 0 0) (file (codes "%DESC 1 1 0 0 0 0 1 1 0 0 1" ∷ codes "0 0" ∷ [])) (bad 3 (Shape 0 0 1 1))
+    ∷ row (alone 0 0) (file (codes "%DESC 1 1 0 0 0 0 1 1 0 0 1" ∷ codes "1 1" ∷ codes "7" ∷ [])) (given (record { nprow = 1; npcol = 1; prow = 0; pcol = 0; m = 0; n = 0; mb = 1; nb = 1; rsrc = 0; csrc = 0; lld = 1 }) (pos 7 ∷ []))
+    ∷ row (record { prow = 0; pcol = 0; first = None; before = 2 ^ 26 - 1 }) (file (codes "%DESC 1 1 0 0 1 2 1 1 0 0 1" ∷ codes "1 2" ∷ [])) (bad 3 (TooLarge (2 ^ 26 + 1)))
+    ∷ row (record { prow = 0; pcol = 0; first = None; before = 2 ^ 26 - 2 }) (file (codes "%DESC 1 1 0 0 1 2 1 1 0 0 1" ∷ codes "1 2" ∷ codes "x" ∷ [])) (bad 4 (Mm matrix.Value))
+    ∷ []
 
 lines_are : AllRead lines_rows
 unfolding below is_outside matrix_reading.step matrix_reading.at_end whole_lines without_end without_return parts not_empty digits_number unsigned_number signed_number lines_behind line_fault symmetry_named expanded banner_words size_words value_words desc_word numbers_of desc_numbered desc_words step at_end read_on

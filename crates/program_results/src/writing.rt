@@ -1,6 +1,5 @@
 //! Writing the results of a program.
 ghost use Rattle.std.specs.Prelude.{◌≡◌, ◌*◌, ◌<◌, IsTrue, length, map};
-ghost use Rattle.text_io.specs.Writing.{Puts, Writes};
 ghost use Rattle.text_io.specs.Saving.{Saves, SavesCause, OpensOnce};
 ghost use Rattle.mm_grammar.specs.PlainText.{plain_text};
 ghost use Rattle.pack_words.specs.GridState.{arrays_held};

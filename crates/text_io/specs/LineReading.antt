@@ -57,6 +57,12 @@ pub record IsTaken (old new : ReaderView) : Type 0 where
   pub number : new.number ≡ suc old.number
   pub more : suc old.before ≤ new.before
 
+-- the line that was taken last, its number and the bytes up to it are as before
+pub record KeepsLine (old new : ReaderView) : Type 0 where
+  pub text : new.text ≡ old.text
+  pub number : new.number ≡ old.number
+  pub before : new.before ≡ old.before
+
 -- no line was taken
 pub record IsSame (old new : ReaderView) : Type 0 where
   pub number : new.number ≡ old.number

@@ -2,8 +2,8 @@
 ghost use Rattle.std.specs.Prelude.{◌≡◌, ◌≢◌, ◌≤◌, ◌<◌, ◌+◌, ◌^◌, ◌∷◌, ◌++◌, ℕ, suc, List, [], length, take, drop, true, false, IsTrue, IfOk, OnErr};
 ghost use Rattle.std.specs.Bool.{OnTrue, OnFalse};
 ghost use Rattle.line_text.specs.Lines.{without_return};
-ghost use Rattle.text_io.specs.Reading.{Takes, unread};
-ghost use Rattle.text_io.specs.LineReading.{ReaderView, lines_left, Finds, Moves, IsSame, IsWhole};
+ghost use Rattle.text_io.specs.Reading.{Takes, Looks, unread};
+ghost use Rattle.text_io.specs.LineReading.{ReaderView, lines_left, Finds, Moves, IsSame, KeepsLine, IsWhole};
 ghost use Rattle.text_io.specs.Runs.{Runs, IsNear, Ends};
 
 use crate::window::Window;
@@ -121,16 +121,8 @@ impl Reader {
     // Whether another byte is there to look at.
     #[inline]
     fn more<S: Store>(&mut self, store: &mut S) -> Result<bool, StoreErr>
-        ensures same { IsTrue (S.state store.old).told →
-            IfOk result (λ _. unread self.new.waiting (S.state store.new) ≡ unread self.old.waiting
-            (S.state store.old)) }
-        ensures some { IfOk result (λ more. more ≡ true → 0 < length self.new.waiting) }
-        ensures end { IsTrue (S.state store.old).told →
-            IfOk result (λ more. more ≡ false → unread self.old.waiting (S.state store.old) ≡ []) }
-        ensures text { self.new.text ≡ self.old.text }
-        ensures number { self.new.number ≡ self.old.number }
-        ensures before { self.new.before ≡ self.old.before }
-        ensures takes { Takes result (S.state store.old) (S.state store.new) }
+        ensures looks { Looks result self.old.waiting self.new.waiting (S.state store.old) (S.state store.new) }
+        ensures same { KeepsLine self.old self.new }
     {
         self.window.more(store)
     }
@@ -140,9 +132,7 @@ impl Reader {
     fn pop(&mut self) -> u8
         requires { 0 < length self.old.waiting }
         ensures waiting { self.old.waiting ≡ result ∷ self.new.waiting }
-        ensures text { self.new.text ≡ self.old.text }
-        ensures number { self.new.number ≡ self.old.number }
-        ensures before { self.new.before ≡ self.old.before }
+        ensures same { KeepsLine self.old self.new }
     {
         self.window.pop()
     }

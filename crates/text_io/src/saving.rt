@@ -13,9 +13,7 @@ pub trait Text {
     /// Puts all of it.
     fn put<S: Store>(&self, pen: &mut Pen, store: &mut S) -> Result<(), StoreErr>
         requires { IsTrue (S.state store.old).writing }
-        ensures puts { IsTrue (S.state store.old).told →
-            Puts result (S.state store.old) (S.state store.new) pen.old pen.new (bytes self.now) }
-        ensures writes { Writes result (S.state store.old) (S.state store.new) };
+        ensures { Puts result (S.state store.old) (S.state store.new) pen.old pen.new (bytes self.now) };
 }
 
 // The whole text to the open output.

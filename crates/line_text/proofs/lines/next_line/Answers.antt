@@ -1,5 +1,5 @@
 use Rattle.std.proofs.Common.{rules, ◌<◌, length}
-use Rattle.line_text.proofs.LineSteps.{ended_run, last_run}
+use Rattle.line_text.proofs.LineLaws.{ended_run, last_run}
 use Rattle.line_text.proofs.lines.next_line.Goals as goal
 
 pub returns-then-length-text : goal.returns-then-length-text

@@ -1,7 +1,7 @@
 -- The grid is one that can be made, and the rank is below 64 * 64.
 use Rattle.std.proofs.Common.{arith}
 use Rattle.piece_file.specs.HeadView.{head_view}
-use Rattle.piece_file.specs.DescView.{desc_view}
+use Rattle.piece_file.specs.Asking.{desc_view}
 use Rattle.piece_file.proofs.CheckSteps.{no_refusal, rank_small}
 use Rattle.piece_file.proofs.checks.entry_info.Goals as goal
 

@@ -7,7 +7,7 @@ use Rattle.piece_grammar.specs.Head as grammar
 use Rattle.piece_grammar.specs.Turn.{Turn}
 use Rattle.piece_grammar.specs.Pieces.{turn_behind, words_of, AreFew, AreHeld, HoldsPiece}
 use Rattle.piece_file.specs.PieceView.{piece_view}
-use Rattle.piece_file.specs.TurnView.{turn_view}
+use Rattle.piece_file.specs.Asking.{turn_view}
 use Rattle.piece_file.specs.Gathering.{held_in, HaveTurns, AreWithin}
 use Rattle.piece_file.specs.declared.piece.Piece.{Piece}
 use Rattle.piece_file.proofs.GatherSteps.{turns_more, words_are, turn_room, within_more, held_turn, IsEndedBehind, ended_more}
