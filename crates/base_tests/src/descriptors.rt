@@ -1,6 +1,9 @@
 //! Descriptors and the arguments of moves at worked values, with each refusal.
 
-use descriptor::{Desc, Info, Llds, MrArgs, Spread, chk1mat, descinit, info_gemr2d, info_trmr2d};
+use descriptor::{
+    Desc, Info, Llds, MrArgs, Seat, Spread, chk1mat, descinit, descinit_at, info_gemr2d,
+    info_trmr2d,
+};
 use proc_grid::{Contexts, GridErr, Order, World, gridinit, gridmap};
 use std::alloc::{AllocError, Global};
 use std::test::Fail;
@@ -59,6 +62,19 @@ fn new_descriptors(rt: HostRuntime) -> Result<(), Fail> {
             want.map(Info),
             "at {m} {n} {mb} {nb} {irsrc} {icsrc} {ictxt} {lld} of {rank}"
         );
+        // the same without the context, whose rank r has process row r / 2
+        if ictxt == 0 && rank < 4 {
+            let seat = Seat {
+                nprow: 2,
+                npcol: 2,
+                row: rank / 2,
+            };
+            assert_eq!(rt;
+                descinit_at(seat, m, n, mb, nb, irsrc, icsrc, lld).err(),
+                want.map(Info),
+                "at {m} {n} {mb} {nb} {irsrc} {icsrc} {lld} at the seat of {rank}"
+            );
+        }
     }
     Ok(())
 }

@@ -5,22 +5,30 @@ use Rattle.proc_grid.specs.Grid.{Grid}
 use Rattle.proc_grid.specs.Held.{context_at}
 use Rattle.descriptor.specs.InfoOf.{Entry, entry}
 use Rattle.descriptor.specs.Bounds.{is_outside, starts_outside, part, rows_of, columns_of, row_of, lacks_rank, least_lld, has_bad_lld, lacks_grid}
+use Rattle.descriptor.specs.declared.seat.Seat.{Seat}
 use Rattle.descriptor.specs.declared.spread.Spread.{Spread}
 use Rattle.descriptor.specs.declared.moves.MrArgs.{MrArgs}
+
+-- the sizes and the blocks of a matrix
+abbrev pub size_entries : ℤ → ℤ → ℤ → ℤ → List Entry
+size_entries m n mb nb =
+    entry (is_outside m 0 (2 ^ 24)) 2 ∷ (entry (is_outside n 0 (2 ^ 24)) 3 ∷ (entry (is_outside mb 1 (2 ^ 24)) 4 ∷ (entry (is_outside nb 1 (2 ^ 24)) 5 ∷ [])))
+
+-- the sources on a grid, and the leading dimension for a process of process row `row` that has of so many rows in such blocks
+abbrev pub source_entries : ℕ → ℕ → ℕ → ℕ → ℕ → ℤ → ℤ → ℤ → List Entry
+source_entries nprow npcol row rows block irsrc icsrc lld =
+    entry (is_outside irsrc 0 (nprow - 1)) 6
+    ∷ (entry (is_outside icsrc 0 (npcol - 1)) 7 ∷ (entry (is_outside lld (least_lld rows block (part irsrc) nprow row) (2 ^ 24)) 9 ∷ []))
 
 -- DESCINIT: the sizes, the blocks, the context, the sources, and the leading dimension for the rank's process
 abbrev pub descinit_entries : List Grid → ℤ → ℤ → ℤ → ℤ → ℤ → ℤ → ℤ → ℤ → ℕ → List Entry
 descinit_entries held m n mb nb irsrc icsrc ictxt lld rank =
     let grid = context_at held ictxt in
-    entry (is_outside m 0 (2 ^ 24)) 2
-    ∷ (entry (is_outside n 0 (2 ^ 24)) 3
-    ∷ (entry (is_outside mb 1 (2 ^ 24)) 4
-    ∷ (entry (is_outside nb 1 (2 ^ 24)) 5
-    ∷ (entry (lacks_rank grid rank) 8
-    ∷ (entry (is_outside irsrc 0 (rows_of grid - 1)) 6
-    ∷ (entry (is_outside icsrc 0 (columns_of grid - 1)) 7
-    ∷ (entry (is_outside lld (least_lld (part m) (part mb) (part irsrc) (rows_of grid) (row_of grid rank)) (2 ^ 24)) 9
-    ∷ [])))))))
+    size_entries m n mb nb ++ (entry (lacks_rank grid rank) 8 ∷ source_entries (rows_of grid) (columns_of grid) (row_of grid rank) (part m) (part mb) irsrc icsrc lld)
+
+-- DESCINIT at a seat: the same without the context
+abbrev pub seat_entries : Seat → ℤ → ℤ → ℤ → ℤ → ℤ → ℤ → ℤ → List Entry
+seat_entries seat m n mb nb irsrc icsrc lld = size_entries m n mb nb ++ source_entries seat.nprow seat.npcol seat.row (part m) (part mb) irsrc icsrc lld
 
 -- the extents of a submatrix
 unfoldable pub extent_entries : ℤ → ℕ → ℤ → ℕ → List Entry

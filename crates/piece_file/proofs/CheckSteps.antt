@@ -1,11 +1,13 @@
 -- The checks of a head's line, by what the code finds.
-use Rattle.std.proofs.Common.{◌≡◌, ℕ, ◌+◌, ◌*◌, ◌<◌, ◌≤◌, true, false, pos, [], ◌∷◌, Some, None, refl, sym, ap, subst, ◌∙◌, arith}
-use Rattle.std.proofs.lemmas.Bool.{le-ltb, ne_eqb}
-use Rattle.proc_grid.specs.Refusals.{shape_refusal, dealt_grid}
+use Rattle.std.proofs.Common.{◌≡◌, ℕ, ◌<◌, ◌≤◌, true, false, pos, [], ◌∷◌, Option, Some, None, refl, sym, ap, subst, ◌∙◌}
+use Rattle.proc_grid.specs.Grid.{place_of}
+use Rattle.proc_grid.specs.Refusals.{dealt_grid, dealt_rank}
 use Rattle.proc_grid.specs.declared.world.Order.TheVariants.{R}
 use Rattle.descriptor.specs.Bounds.{part}
 use Rattle.descriptor.specs.InfoOf.{info_of}
-use Rattle.descriptor.specs.Entries.{descinit_entries}
+use Rattle.descriptor.specs.Entries.{seat_entries}
+use Rattle.descriptor.specs.declared.seat.Seat.{Seat}
+use Rattle.descriptor.proofs.SeatLaws.{at_seat}
 use Rattle.descriptor.specs.declared.info.Info.{Info}
 use Rattle.piece_grammar.specs.Desc.{Desc, is_off_grid, desc_info, head_of}
 use Rattle.piece_grammar.specs.Faults.{DescLine, Disagree, DescEntry, WrongPlace}
@@ -13,32 +15,26 @@ use Rattle.piece_grammar.specs.Turn.{Turn}
 use Rattle.piece_grammar.specs.FaultTable.{first_fault, disagrees, is_elsewhere, desc_rows}
 use Rattle.piece_grammar.specs.Head.{Head}
 use Rattle.piece_grammar.proofs.Heads.{IsOnGrid, on_grid, here, agreed, none_met}
-use Rattle.piece_grammar.proofs.GoodHeads.{tested}
+use Rattle.piece_grammar.proofs.GoodHeads.{tested, place_dealt}
 use Rattle.piece_file.specs.Asking.{IsAsked}
 
--- a grid of so many rows and columns isn't refused
-shape_good : (p q : ℕ) → 1 ≤ p → p ≤ 64 → 1 ≤ q → q ≤ 64 → p * q ≤ 64 → shape_refusal 64 p q ≡ None
-shape_good p q a b c d few = rw (ne_eqb p 0 (λ e. omega (arith, e)), le-ltb 64 p b, ne_eqb q 0 (λ e. omega (arith, e)), le-ltb 64 q d, le-ltb 64 (p * q) few) refl
-
-pub no_refusal : (d : Desc) (h : Head) → h ≡ head_of d → is_off_grid d ≡ false → shape_refusal 64 h.nprow h.npcol ≡ None
-no_refusal d h same off =
+-- what `descinit` finds of the numbers at the seat of their process
+pub info_there : (d : Desc) (h : Head) (seat : Seat) (info : Option Info) → h ≡ head_of d → is_off_grid d ≡ false → seat.nprow ≡ h.nprow → seat.npcol ≡ h.npcol → seat.row ≡ h.prow
+    → info ≡ info_of (seat_entries seat d.m d.n d.mb d.nb d.rsrc d.csrc d.lld) → info ≡ desc_info d
+info_there d h seat info same off rows columns row is =
     let on : IsOnGrid d = on_grid d off in
-    ap (λ (x : Head). shape_refusal 64 x.nprow x.npcol) same ∙ shape_good (part d.nprow) (part d.npcol) on.some_rows on.few_rows on.some_columns on.few_columns on.few
+    let grid = dealt_grid R (part d.nprow) (part d.npcol) in
+    let rank : ℕ = dealt_rank R (part d.nprow) (part d.npcol) (part d.prow) (part d.pcol) in
+    let place : place_of grid rank ≡ Some (part d.prow, part d.pcol) = place_dealt (part d.nprow) (part d.npcol) (part d.prow) (part d.pcol) on.some_rows on.few_rows on.some_columns on.few_columns on.few on.row on.column in
+    let here : seat.row ≡ part d.prow = row ∙ ap (λ (x : Head). x.prow) same in
+    let seated : place_of grid rank ≡ Some (seat.row, part d.pcol) = place ∙ ap (λ (p : ℕ). Some (p, part d.pcol)) (sym here) in
+    is ∙ sym (at_seat (grid ∷ []) d.m d.n d.mb d.nb d.rsrc d.csrc (pos 0) d.lld rank grid seat (part d.pcol) refl seated (rows ∙ ap (λ (x : Head). x.nprow) same) (columns ∙ ap (λ (x : Head). x.npcol) same))
 
--- the rank of the process is small
-small : (p q n : ℕ) → p ≤ 63 → q < n → n ≤ 64 → p * n + q < 4096
-small p q n a b c = grind arith
-
-pub rank_small : (d : Desc) (h : Head) → h ≡ head_of d → is_off_grid d ≡ false → h.prow * h.npcol + h.pcol < 4096
-rank_small d h same off =
+-- the process is one of the grid
+pub is_seat : (d : Desc) (h : Head) → h ≡ head_of d → is_off_grid d ≡ false → (h.nprow ≤ 64) × (0 < h.npcol) × (h.prow < h.nprow)
+is_seat d h same off =
     let on : IsOnGrid d = on_grid d off in
-    let row : part d.prow < part d.nprow = on.row in
-    let rows : part d.nprow ≤ 64 = on.few_rows in
-    subst (λ (x : Head). x.prow * x.npcol + x.pcol < 4096) (sym same) (small (part d.prow) (part d.pcol) (part d.npcol) (omega arith) on.column on.few_columns)
-
--- what `descinit` finds there
-pub info_there : (d : Desc) (h : Head) → h ≡ head_of d → info_of (descinit_entries (dealt_grid R h.nprow h.npcol ∷ []) d.m d.n d.mb d.nb d.rsrc d.csrc (pos 0) d.lld (h.prow * h.npcol + h.pcol)) ≡ desc_info d
-info_there d h same = ap (λ (x : Head). info_of (descinit_entries (dealt_grid R x.nprow x.npcol ∷ []) d.m d.n d.mb d.nb d.rsrc d.csrc (pos 0) d.lld (x.prow * x.npcol + x.pcol))) same
+    subst (λ (x : Head). (x.nprow ≤ 64) × (0 < x.npcol) × (x.prow < x.nprow)) (sym same) (on.few_rows, on.some_columns, on.row)
 
 -- ---- the rows of the line
 

@@ -20,7 +20,6 @@ use Rattle.piece_grammar.specs.Turn.{Turn}
 use Rattle.piece_grammar.specs.Place.{AtBanner, AtDesc, Behind}
 use Rattle.piece_grammar.specs.FaultTable.{first_fault, is_another, desc_rows, size_at, array_rows}
 use Rattle.piece_grammar.specs.PieceReading.{step}
-use Rattle.std.specs.Prelude.{IfOk}
 use Rattle.piece_file.specs.HeadView.{head_view}
 use Rattle.piece_file.specs.FaultView.{fault_view}
 use Rattle.piece_file.specs.Asking.{Finds}
@@ -81,11 +80,9 @@ unfolding step
 desc_good turn text upto d h short is some none same near = let e : desc_of text ≡ Some d = sym some in let s : head_of d ≡ h = sym same in rw (good_text text upto short near is, e, none, s) refl
 
 -- the line has the form of such lines, and the check of its numbers decides
-pub head_makes : {E : Type 0} (turn : Turn) (text : List ℕ) (d : Desc) (r : Result (Result InCode PieceFault) E) → length text ≤ 1024 → list_all is_text_byte text ≡ true → Some d ≡ desc_of text → IfOk r (λ found. Finds found turn d)
-    → IfOk r (λ found. Makes behind_head found turn AtDesc text)
-head_makes turn text d (Ok (Ok head)) short is some finds = λ upto near. desc_good turn text upto d (head_view head) short is some finds.1 finds.0 near
-head_makes turn text d (Ok (Err fault)) short is some finds = λ upto near. desc_bad turn text upto d (fault_view fault) short is some finds near
-head_makes turn text d (Err e) short is some finds = tt
+pub head_makes : (turn : Turn) (text : List ℕ) (d : Desc) (found : Result InCode PieceFault) → length text ≤ 1024 → list_all is_text_byte text ≡ true → Some d ≡ desc_of text → Finds found turn d → Makes behind_head found turn AtDesc text
+head_makes turn text d (Ok head) short is some finds = λ upto near. desc_good turn text upto d (head_view head) short is some finds.1 finds.0 near
+head_makes turn text d (Err fault) short is some finds = λ upto near. desc_bad turn text upto d (fault_view fault) short is some finds near
 
 -- ---- the size line
 

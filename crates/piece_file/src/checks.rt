@@ -1,10 +1,8 @@
 //! What the numbers of a head's line have to keep.
 ghost use Rattle.std.specs.Prelude.{◌≡◌, ◌≤◌, ◌-◌, ◌*◌, ◌^◌, ◌||◌, ◌&&◌, nat_lt, [], ◌∷◌, IfErr, OnOk, None, Some, Ok, pos, true, false, IfOk, IfSome, IfNone, MatchOption, ℤ};
-ghost use Rattle.proc_grid.specs.Refusals.{shape_refusal, dealt_grid, dealt_rank};
-ghost use Rattle.proc_grid.specs.declared.world.Order.TheVariants.{R};
 ghost use Rattle.descriptor.specs.Bounds.{is_outside, part};
 ghost use Rattle.descriptor.specs.InfoOf.{info_of};
-ghost use Rattle.descriptor.specs.Entries.{descinit_entries};
+ghost use Rattle.descriptor.specs.Entries.{seat_entries};
 ghost use Rattle.piece_grammar.specs.Desc.{is_off_grid, desc_info, is_number, differs_from, head_of as head_of_desc};
 ghost use Rattle.piece_grammar.specs.FaultTable.{first_fault, disagrees, is_elsewhere, desc_rows};
 ghost use Rattle.piece_file.specs.HeadView.{head_view};
@@ -14,9 +12,7 @@ use crate::desc_line::Desc;
 use crate::fault::PieceFault;
 use crate::head::Head;
 use crate::turn::Turn;
-use descriptor::{Info, descinit};
-use proc_grid::{Context, Contexts, Order, World, gridinit};
-use std::alloc::{AllocError, Global};
+use descriptor::{Info, Seat, descinit_at};
 
 // The most processes of a grid.
 const MOST: u32 = 64;
@@ -123,85 +119,55 @@ fn head_of(desc: &Desc) -> Head
     }
 }
 
-// The grid of so many rows and columns whose ranks are dealt out by rows.
-fn dealt_by_rows(alloc: Global, nprow: u32, npcol: u32) -> Result<Context, AllocError>
-    requires { shape_refusal 64 nprow npcol ≡ None }
-    ensures { IfOk result (λ context. context ≡ dealt_grid R nprow npcol) }
-{
-    let world = World { ranks: MOST };
-    match gridinit(alloc, &world, Order::R, nprow, npcol) {
-        Ok(context) => Ok(context),
-        Err(_) => Err(AllocError),
-    }
-}
-
-// What `descinit` finds of the numbers for a rank of the one context.
-fn info_in(contexts: &Contexts, desc: &Desc, rank: u32) -> Option<Info>
+// What `descinit` finds of the numbers at this seat.
+fn info_at(desc: &Desc, seat: Seat) -> Option<Info>
     ensures { let d = desc_view desc.now in
-        result ≡ info_of (descinit_entries contexts.now d.m d.n d.mb d.nb d.rsrc d.csrc (pos 0) d.lld rank) }
+        result ≡ info_of (seat_entries seat d.m d.n d.mb d.nb d.rsrc d.csrc d.lld) }
 {
-    let found = descinit(
-        contexts,
+    let found = descinit_at(
+        seat,
         i64::from(desc.m),
         i64::from(desc.n),
         i64::from(desc.mb),
         i64::from(desc.nb),
         i64::from(desc.rsrc),
         i64::from(desc.csrc),
-        0,
         i64::from(desc.lld),
-        rank,
     );
-    match found {
-        Ok(_) => None,
-        Err(info) => Some(info),
-    }
-}
-
-// One context: the grid of so many rows and columns.
-fn own_context(alloc: Global, nprow: u32, npcol: u32) -> Result<Contexts, AllocError>
-    requires { shape_refusal 64 nprow npcol ≡ None }
-    ensures { IfOk result (λ contexts. contexts ≡ dealt_grid R nprow npcol ∷ []) }
-{
-    let grid = dealt_by_rows(alloc, nprow, npcol)?;
-    let mut contexts = Contexts::new(alloc)?;
-    contexts.add(grid)?;
-    Ok(contexts)
+    found.err()
 }
 
 // The INFO of the numbers for their process, on a grid of their shape.
-#[tactic(auto, using(crate::proofs::CheckSteps::no_refusal, crate::proofs::CheckSteps::rank_small, crate::proofs::CheckSteps::info_there))]
-fn entry_info(alloc: Global, desc: &Desc, head: &Head) -> Result<Option<Info>, AllocError>
+fn entry_info(desc: &Desc, head: &Head) -> Option<Info>
     requires on_grid { is_off_grid (desc_view desc.now) ≡ false }
     requires same { head_view head.now ≡ head_of_desc (desc_view desc.now) }
-    ensures { IfOk result (λ info. info ≡ desc_info (desc_view desc.now)) }
+    ensures { result ≡ desc_info (desc_view desc.now) }
 {
-    let contexts = own_context(alloc, head.nprow, head.npcol)?;
-    let rank = head.prow * head.npcol + head.pcol;
-    Ok(info_in(&contexts, desc, rank))
+    let seat = Seat {
+        nprow: head.nprow,
+        npcol: head.npcol,
+        row: head.prow,
+    };
+    info_at(desc, seat)
 }
 
 /// The head of these numbers, or what is wrong with them, where it is this piece's turn.
 #[tactic(auto, using(crate::proofs::CheckSteps::row_grid, crate::proofs::CheckSteps::row_differs, crate::proofs::CheckSteps::row_entry, crate::proofs::CheckSteps::row_elsewhere))]
-pub(crate) fn check_desc(
-    alloc: Global,
-    desc: &Desc,
-    turn: &Turn,
-) -> Result<Result<Head, PieceFault>, AllocError>
-    ensures { IfOk result (λ found. Finds found (turn_view turn.now) (desc_view desc.now)) }
+pub(crate) fn check_desc(desc: &Desc, turn: &Turn) -> Result<Head, PieceFault>
+    ensures { Finds result (turn_view turn.now) (desc_view desc.now) }
 {
     if off_grid(desc) {
-        return Ok(Err(PieceFault::DescLine));
+        return Err(PieceFault::DescLine);
     }
     if differs_from_first(desc, turn) {
-        return Ok(Err(PieceFault::Disagree));
+        return Err(PieceFault::Disagree);
     }
     let head = head_of(desc);
-    if let Some(info) = entry_info(alloc, desc, &head)? {
-        return Ok(Err(PieceFault::DescEntry(info)));
+    if let Some(info) = entry_info(desc, &head) {
+        return Err(PieceFault::DescEntry(info));
     }
     if elsewhere(desc, turn) {
-        return Ok(Err(PieceFault::WrongPlace));
+        return Err(PieceFault::WrongPlace);
     }
-    Ok(Ok(head))
+    Ok(head)
 }

@@ -111,10 +111,7 @@ pub fn gather_pieces<S: Store>(
     let mut pieces = Vec::new(alloc);
     let mut words = 0;
     while let Some(turn) = turn_after(&pieces, words) {
-        let piece = match read_turn(alloc, store, prefix, &turn) {
-            Ok(piece) => piece,
-            Err(error) => return Err(error),
-        };
+        let piece = read_turn(alloc, store, prefix, &turn)?;
         words += array_size(&piece);
         match pieces.push(piece) {
             Ok(()) => {}

@@ -28,7 +28,7 @@ use crate::turn::Turn;
 use index_tools::numroc;
 use mm_reader::{Header, MmErr, MmFault, Symmetry, banner_step, is_text, read_values, size_step};
 use pack_words::LocalArray;
-use std::alloc::{AllocError, Global};
+use std::alloc::Global;
 use store_io::{Store, StoreErr};
 use text_io::{Halt, Next, Reader};
 
@@ -95,28 +95,23 @@ fn read_banner<S: Store>(reader: &mut Reader, store: &mut S) -> Result<(), Halt<
 
 // What the second line makes of the file: a head that is asked for.
 #[tactic(auto, using(crate::proofs::StepLaws::desc_no_text, crate::proofs::StepLaws::desc_no_form))]
-fn head_step(
-    alloc: Global,
-    line: &[u8],
-    turn: &Turn,
-) -> Result<Result<Head, PieceFault>, AllocError>
+fn head_step(line: &[u8], turn: &Turn) -> Result<Head, PieceFault>
     requires { length line.now ≤ 1024 }
-    ensures steps { IfOk result (λ found. Makes behind_head found (turn_view turn.now) AtDesc line.now) }
-    ensures asked { IfOk result (λ found. IfOk found (λ head. IsAsked (turn_view turn.now) (head_view head))) }
+    ensures steps { Makes behind_head result (turn_view turn.now) AtDesc line.now }
+    ensures asked { IfOk result (λ head. IsAsked (turn_view turn.now) (head_view head)) }
 {
     if !is_text(line) {
-        return Ok(Err(PieceFault::Mm(MmFault::NotText)));
+        return Err(PieceFault::Mm(MmFault::NotText));
     }
     match read_desc_line(line) {
-        Some(desc) => check_desc(alloc, &desc, turn),
-        None => Ok(Err(PieceFault::DescLine)),
+        Some(desc) => check_desc(&desc, turn),
+        None => Err(PieceFault::DescLine),
     }
 }
 
 // Reads the line of the head.
 #[tactic(auto, unfolding(piece_grammar::specs::PieceReading::at_end))]
 fn read_head<S: Store>(
-    alloc: Global,
     reader: &mut Reader,
     store: &mut S,
     turn: &Turn,
@@ -127,10 +122,7 @@ fn read_head<S: Store>(
 {
     let line = reader.number();
     take_line(reader, store, PieceFault::DescLine)?;
-    match head_step(alloc, reader.text(), turn) {
-        Ok(found) => at_line(line, found),
-        Err(_) => Err(Halt::Memory),
-    }
+    at_line(line, head_step(reader.text(), turn))
 }
 
 // What is wrong with the size of a head's array: it has LLD rows and as many columns as its process has of the matrix, at
@@ -254,7 +246,7 @@ fn read_open<S: Store>(alloc: Global, store: &mut S, turn: &Turn) -> Result<Piec
 {
     let mut reader = Reader::new();
     read_banner(&mut reader, store)?;
-    let head = read_head(alloc, &mut reader, store, turn)?;
+    let head = read_head(&mut reader, store, turn)?;
     let size = read_size(&mut reader, store, &head, turn)?;
     let cells = read_array(alloc, &mut reader, store, &head, &size)?;
     Ok(Piece { head, cells })
